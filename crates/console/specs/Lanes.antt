@@ -10,6 +10,10 @@ use lib.ListN.{getD}
 abbrev pub width : ℕ
 width = 20
 
+-- each tick shows a dot
+abbrev pub Idle : List ℕ → Type 0
+Idle cells = (tick : ℕ) → tick < width → getD cells tick 0 ≡ 46
+
 -- so many ticks, the first at `from`, show the last digit of the job's number, and the others are as they were
 abbrev pub Marked : List ℕ → ℕ → ℕ → ℕ → List ℕ → Type 0
 Marked before from len job after =

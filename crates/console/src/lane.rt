@@ -4,11 +4,14 @@ ghost use mathlib.Core.Path.{_≡_};
 ghost use mathlib.Core.Bool.{cond, _&&_};
 ghost use lib.Dec.{leb, ltb};
 ghost use Prim.Native.Nat.{_+_, _%_};
-ghost use Rattle.console.specs.Lanes.{Marked};
+ghost use Rattle.console.specs.Lanes.{Idle, Marked};
 use std::fmt;
 
 /// The ticks of the board's cycle.
 pub const CYCLE: u32 = 20;
+
+/// The last digit of each tick.
+pub const RULER: &str = "01234567890123456789";
 
 const WIDTH: usize = 20;
 
@@ -19,19 +22,12 @@ pub struct Lane {
 
 impl Lane {
     /// A lane in which nothing happens.
-    pub fn idle() -> Lane {
+    pub fn idle() -> Lane
+        ensures { λ r. ⌜ Idle (r .cells) ⌝ }
+    {
         Lane {
             cells: ['.'; WIDTH],
         }
-    }
-
-    /// The last digit of each tick.
-    pub fn ruler() -> Lane {
-        let mut lane = Lane::idle();
-        for tick in 0..WIDTH {
-            lane.cells[tick] = digit(tick as u64);
-        }
-        lane
     }
 
     /// Marks `len` ticks, the first at `from`, with the last digit of a job's number.

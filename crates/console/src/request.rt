@@ -19,7 +19,7 @@ pub enum Base {
 }
 
 /// Reads `steady X`, `listed HEX`, or one of them after some `late L`; nothing where the words are none of these.
-pub fn read(heap: Global, words: &[&str]) -> Result<Option<Request>, AllocError> {
+pub(crate) fn read(heap: Global, words: &[&str]) -> Result<Option<Request>, AllocError> {
     let mut lags = Vec::new(heap);
     let mut rest = words;
     while let ["late", lag, below @ ..] = rest {

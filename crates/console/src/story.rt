@@ -6,6 +6,7 @@ ghost use Rattle.model.specs.Placing.{In-time-below};
 use super::lane::CYCLE;
 use super::lane::Lane;
 use super::lane::LaneDisplay;
+use super::lane::RULER;
 use super::request;
 use super::request::Base;
 use model::figures::Figures;
@@ -29,7 +30,7 @@ const CORES: u32 = 2;
 const MAX_JOBS: usize = 1024;
 
 /// Says who the task is and what it asks for.
-pub fn introduce(rt: &LibcRuntime, task: &Task) -> io::Result<()> {
+pub(crate) fn introduce(rt: &LibcRuntime, task: &Task) -> io::Result<()> {
     let Task {
         number,
         core,
@@ -47,7 +48,7 @@ pub fn introduce(rt: &LibcRuntime, task: &Task) -> io::Result<()> {
 }
 
 /// Answers a line that names a source.
-pub fn answer(rt: &LibcRuntime, task: &Task, text: &str) -> io::Result<()> {
+pub(crate) fn answer(rt: &LibcRuntime, task: &Task, text: &str) -> io::Result<()> {
     let words: Vec<&str> = text.split_whitespace().collect(rt.alloc())?;
     let Some(request) = request::read(rt.alloc(), words.as_slice())? else {
         return misunderstood(rt);
@@ -152,7 +153,7 @@ fn tell(rt: &LibcRuntime, task: &Task, jobs: u32, offsets: &[u32]) -> io::Result
         busy.mark(timeline.release, task.figures.compute, job);
         deadlines.mark(timeline.deadline, 1, job);
     }
-    println!(rt, "  ticks      {}", Lane::ruler())?;
+    println!(rt, "  ticks      {RULER}")?;
     println!(rt, "  activated  {activations}")?;
     println!(rt, "  channel    {channel}")?;
     for core in 0..CORES {
