@@ -22,7 +22,7 @@ pub struct Lane {
 
 impl Lane {
     /// A lane in which nothing happens.
-    pub fn idle() -> Lane
+    pub(crate) fn idle() -> Lane
         ensures { λ r. ⌜ Idle (r .cells) ⌝ }
     {
         Lane {
@@ -31,7 +31,7 @@ impl Lane {
     }
 
     /// Marks `len` ticks, the first at `from`, with the last digit of a job's number.
-    pub fn mark(&mut self, from: u64, len: u32, job: u32)
+    pub(crate) fn mark(&mut self, from: u64, len: u32, job: u32)
         ensures { λ _. ⌜ Marked (now (self .entry) .cells) from len job (now (self .exit) .cells) ⌝ }
     {
         let shown = digit(u64::from(job));

@@ -1,5 +1,5 @@
 -- Periods that divide a cycle, and those that do not.
-use mathlib.Core.Path.{_≡_, sym, ap, _∙_}
+use mathlib.Core.Path.{_≡_}
 use Prim.Native.Nat.{ℕ, _*_, _%_}
 use native.Mathlib.Nat.{mul-mod-left}
 

@@ -3,7 +3,7 @@ use mathlib.Core.Path.{_≡_, refl, sym, ap, _∙_}
 use mathlib.Core.List.{List, [], _∷_, _++_}
 use Prim.Native.Nat.{ℕ, zero, suc, _+_, _-_, _≤_, _<_}
 use native.Mathlib.Omega.{arith}
-use lib.ListN.{length, getD, take, drop}
+use lib.ListN.{length, take, drop}
 use Rattle.std.proofs.shelf.Lists.{append-assoc, drop-at, getD-drop, take-rest}
 use Rattle.std.specs.shelf.Lists.{All, joined}
 use Rattle.std.specs.declared.option.Option.the-variants.{Some, None}
@@ -11,7 +11,7 @@ use Rattle.std.specs.declared.result.Result.{Result}
 use Rattle.std.specs.declared.result.Result.the-variants.{Ok, Err}
 use Rattle.wire.specs.declared.reading.Fault.{Fault}
 use Rattle.wire.specs.declared.reading.Number.{Number}
-use Rattle.wire.specs.Numbers.{first-number, spelling, Bytes}
+use Rattle.wire.specs.Numbers.{largest, first-number, spelling, Bytes}
 use Rattle.wire.proofs.Spellings.{reads-back, has-one-spelling}
 use Rattle.model.specs.Sources.{listed, where-read, Spells, Listed-is-spelled}
 
@@ -43,7 +43,7 @@ module _ (bs : List ℕ) (n : Number) (job i : ℕ) (e : Ok n ≡ first-number b
 
 -- ---- what is spelled is listed
 
-spelled-listed : (others : List ℕ) (x : ℕ) (rest : List ℕ) → All (λ n. n ≤ 16777215) others → x ≤ 16777215 →
+spelled-listed : (others : List ℕ) (x : ℕ) (rest : List ℕ) → All (λ n. n ≤ largest) others → x ≤ largest →
     listed (joined spelling others ++ (spelling x ++ rest)) (length others) ≡ Some x
 spelled-listed [] x rest hs h = listed-here (spelling x ++ rest) _ (reads-back x rest h)
 spelled-listed (v ∷ others) x rest hs h =

@@ -11,7 +11,7 @@ use Rattle.std.specs.declared.result.Result.{Result}
 use Rattle.std.specs.declared.result.Result.the-variants.{Ok, Err}
 use Rattle.wire.specs.declared.reading.Fault.{Fault}
 use Rattle.wire.specs.declared.reading.Number.{Number}
-use Rattle.wire.specs.Numbers.{first-number, spelling, Bytes}
+use Rattle.wire.specs.Numbers.{largest, first-number, spelling, Bytes}
 
 abbrev pub Meaning : Type 0
 Meaning = ℕ → Option ℕ
@@ -43,8 +43,8 @@ pub record Spells (bs : List ℕ) (job x : ℕ) : Type 0 where
   pub others : List ℕ
   pub rest : List ℕ
   pub count : length others ≡ job
-  pub bounds : All (λ n. n ≤ 16777215) others
-  pub bound : x ≤ 16777215
+  pub bounds : All (λ n. n ≤ largest) others
+  pub bound : x ≤ largest
   pub bytes : bs ≡ joined spelling others ++ (spelling x ++ rest)
 
 abbrev pub Listed-is-spelled : Type 0

@@ -1,6 +1,5 @@
 //! Placing the jobs of a cycle by a source's offsets.
 
-ghost use mathlib.Core.Path.{_≡_};
 ghost use Prim.Native.Nat.{_≤_};
 ghost use lib.ListN.{length};
 ghost use Rattle.model.specs.Placing.{Placed, Read-all, All-in-time};

@@ -1,6 +1,5 @@
 //! A task, and when each of its endless jobs does what.
 
-ghost use mathlib.Core.Path.{_≡_};
 ghost use Rattle.std.specs.Options.{Cases};
 ghost use Rattle.model.specs.Timelines.{row-of, Fitting, Happens};
 use super::figures::Figures;

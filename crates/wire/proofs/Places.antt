@@ -1,8 +1,8 @@
 -- The reading of a number by the places of its bytes, as a program goes through them.
-use mathlib.Core.Path.{_≡_, refl}
+use mathlib.Core.Path.{_≡_, refl, _∙_}
 use mathlib.Core.List.{List, [], _∷_}
 use mathlib.Core.Bool.{cond}
-use Prim.Native.Nat.{ℕ, _+_, _-_, _*_, _<_, _≤_}
+use Prim.Native.Nat.{ℕ, _+_, _-_, _*_}
 use native.Mathlib.Omega.{arith}
 use lib.Dec.{eqb, ltb}
 use lib.ListN.{length, getD}
@@ -12,7 +12,8 @@ use Rattle.std.specs.declared.result.Result.the-variants.{Ok, Err}
 use Rattle.wire.specs.declared.reading.Fault.{Fault}
 use Rattle.wire.specs.declared.reading.Fault.the-variants.{Ends, Misspelt}
 use Rattle.wire.specs.declared.reading.Number.{Number}
-use Rattle.wire.specs.Numbers.{first-number, Bytes}
+use Rattle.wire.specs.Numbers.{first-number, Bytes, Read}
+use Rattle.wire.proofs.Spellings.{read}
 
 -- a spelling of several bytes, by its last
 abbrev shortest : ℕ → ℕ → ℕ → Result Number Fault
@@ -27,7 +28,7 @@ by-places len a b c d =
     (cond (ltb len 4) (Err Ends) (cond (ltb 7 d) (Err Misspelt)
     (shortest d (a - 128 + 128 * (b - 128 + 128 * (c - 128 + 128 * d))) 4))))))))
 
-pub first-by-places : (bs : List ℕ) → Bytes bs →
+first-by-places : (bs : List ℕ) → Bytes bs →
     by-places (length bs) (getD bs 0 0) (getD bs 1 0) (getD bs 2 0) (getD bs 3 0) ≡ first-number bs
 unfolding first-number
 first-by-places [] h = refl
@@ -35,3 +36,8 @@ first-by-places (a ∷ []) h = grind (arith, tells)
 first-by-places (a ∷ b ∷ []) h = grind (arith, tells, h 0, h 1)
 first-by-places (a ∷ b ∷ c ∷ []) h = grind (arith, tells, h 0, h 1, h 2)
 first-by-places (a ∷ b ∷ c ∷ d ∷ bs) h = grind (arith, tells, h 0, h 1, h 2, h 3)
+
+-- an answer that goes by the places of the first four bytes is right
+pub read-by-places : (bs : List ℕ) (r : Result Number Fault) → Bytes bs →
+    r ≡ by-places (length bs) (getD bs 0 0) (getD bs 1 0) (getD bs 2 0) (getD bs 3 0) → Read bs r
+read-by-places bs r h e = read bs r h (e ∙ first-by-places bs h)

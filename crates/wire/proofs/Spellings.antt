@@ -1,5 +1,5 @@
 -- Spelling and reading undo each other; where bytes are cut short, reading says so.
-use mathlib.Core.Path.{_≡_, refl, ap}
+use mathlib.Core.Path.{_≡_, refl, sym, ap, _∙_}
 use mathlib.Core.Logic.{⊎-elim}
 use mathlib.Core.List.{List, [], _∷_, _++_}
 use Prim.Native.Nat.{ℕ, zero, suc, _+_, _-_, _*_, _/_, _%_, _<_, _≤_, _^_}
@@ -7,18 +7,19 @@ use native.Mathlib.Nat.{pow-suc}
 use native.Mathlib.Numerals.{add-one}
 use native.Mathlib.Omega.{arith}
 use lib.Dec.{eqb, ltb, leb}
-use lib.ListN.{length, getD, drop}
+use lib.ListN.{length, drop}
 use Rattle.std.specs.Vec.{made}
 use Rattle.std.proofs.shelf.Ways.{tells}
 use Rattle.std.proofs.shelf.Tests.{lt-ltb, le-ltb, ltb-false, leb-true, cases-lt, cond-both}
 use Rattle.std.proofs.shelf.Bits.{div-below}
+use Rattle.std.proofs.shelf.Lists.{length-append}
 use Rattle.std.proofs.shelf.Results.{made-at-ok}
 use Rattle.std.specs.declared.result.Result.{Result}
 use Rattle.std.specs.declared.result.Result.the-variants.{Ok, Err}
 use Rattle.wire.specs.declared.reading.Fault.{Fault}
 use Rattle.wire.specs.declared.reading.Fault.the-variants.{Ends, Misspelt}
 use Rattle.wire.specs.declared.reading.Number.{Number}
-use Rattle.wire.specs.Numbers.{groups, spelling, onto, joined-groups, bounded, first-number, Bytes, Reads-back, Begins-with, Has-one-spelling, Cut, Ends-where-cut}
+use Rattle.wire.specs.Numbers.{largest, groups, spelling, onto, joined-groups, bounded, first-number, Bytes, Reads-back, Begins-with, Has-one-spelling, Cut, Ends-where-cut, Read}
 
 -- ---- what is spelled reads back
 
@@ -73,16 +74,16 @@ read-groups (suc more) (b ∷ bs) h =
     (λ t. simp t (refl, refl))
     (λ f. onto-groups more b bs (ltb-false b 128 f) (h 0) (joined-groups more bs) (read-groups more bs (λ i. h (suc i))))
 
-bounded-made : (P : Number → Type 0) (r : Result Number Fault) → made r P → made (bounded r) (λ n. (n .value ≤ 16777215) × P n)
+bounded-made : (P : Number → Type 0) (r : Result Number Fault) → made r P → made (bounded r) (λ n. (n .value ≤ largest) × P n)
 bounded-made P (Err f) g = tt
 bounded-made P (Ok n) g =
-    cond-both (leb (n .value) 16777215) (Ok n) (Err Misspelt) (λ x. made x (λ y. (y .value ≤ 16777215) × P y))
-    (λ t. (leb-true (n .value) 16777215 t, g)) (λ _. tt)
+    cond-both (leb (n .value) largest) (Ok n) (Err Misspelt) (λ x. made x (λ y. (y .value ≤ largest) × P y))
+    (λ t. (leb-true (n .value) largest t, g)) (λ _. tt)
 
 pub has-one-spelling : Has-one-spelling
 unfolding spelling first-number
 has-one-spelling bs n h e =
-    let g = made-at-ok (λ x. (x .value ≤ 16777215) × Groups-of 3 bs x) e (bounded-made (Groups-of 3 bs) (joined-groups 3 bs) (read-groups 3 bs h)) in
+    let g = made-at-ok (λ x. (x .value ≤ largest) × Groups-of 3 bs x) e (bounded-made (Groups-of 3 bs) (joined-groups 3 bs) (read-groups 3 bs h)) in
     record { bound = g .0; used = g .1 .1; front = g .1 .0 }
 
 -- ---- where bytes are cut short
@@ -106,3 +107,33 @@ ends-from-cut (a ∷ b ∷ c ∷ d ∷ bs) h = absurd (omega (arith, h .few))
 
 pub ends-where-cut : Ends-where-cut
 ends-where-cut bs = (cut-from-ends bs, ends-from-cut bs)
+
+-- ---- which answer is right
+
+spelled-some : (n : ℕ) → 1 ≤ length (spelling n)
+unfolding spelling
+spelled-some n = grind (arith, tells)
+
+begun-within : (bs : List ℕ) (n : Number) → Begins-with bs n → (1 ≤ n .len) × (n .len ≤ length bs)
+begun-within bs n h =
+    let whole : length bs ≡ length (spelling (n .value)) + length (drop (n .len) bs) = ap length (h .front) ∙ length-append _ _ in
+    (omega (arith, h .used, spelled-some (n .value)), omega (arith, h .used))
+
+begun-reads : (bs : List ℕ) (n : Number) → Begins-with bs n → first-number bs ≡ Ok (record { value = n .value; len = length (spelling (n .value)) })
+begun-reads bs n h = rw (h .front) (reads-back (n .value) (drop (n .len) bs) (h .bound))
+
+-- an answer that is the first number is right
+pub read : (bs : List ℕ) (r : Result Number Fault) → Bytes bs → r ≡ first-number bs → Read bs r
+read bs (Ok n) b e =
+    let h = has-one-spelling bs n b (sym e) in
+    record { value = e; right = h; within = begun-within bs n h }
+read bs (Err Ends) b e = record { value = e; right = cut-from-ends bs (sym e); within = tt }
+read bs (Err Misspelt) b e =
+    record {
+      value = e;
+      right = (
+        λ cut. let z : _≡_ {A = ℕ} 0 1 = cc (ends-from-cut bs cut) in omega arith,
+        λ n h. let z : _≡_ {A = ℕ} 0 1 = cc (begun-reads bs n h) in omega arith,
+      );
+      within = tt;
+    }

@@ -8,12 +8,17 @@ use mathlib.Core.Bool.{cond}
 use Prim.Native.Nat.{ℕ, zero, suc, _+_, _-_, _*_, _/_, _%_, _<_, _≤_}
 use lib.Dec.{eqb, ltb, leb}
 use lib.ListN.{length, getD, drop}
+use Rattle.std.specs.Vec.{made}
 use Rattle.std.specs.shelf.Lists.{All}
 use Rattle.std.specs.declared.result.Result.{Result}
 use Rattle.std.specs.declared.result.Result.the-variants.{Ok, Err}
 use Rattle.wire.specs.declared.reading.Fault.{Fault}
 use Rattle.wire.specs.declared.reading.Fault.the-variants.{Ends, Misspelt}
 use Rattle.wire.specs.declared.reading.Number.{Number}
+
+-- the largest number that can be spelled
+abbrev pub largest : ℕ
+largest = 16777215
 
 -- ---- spelling
 
@@ -39,7 +44,7 @@ joined-groups zero (b ∷ bs) = cond (ltb b 128) (Ok (record { value = b; len = 
 joined-groups (suc more) (b ∷ bs) = cond (ltb b 128) (Ok (record { value = b; len = 1 })) (onto (b - 128) (joined-groups more bs))
 
 abbrev pub bounded : Result Number Fault → Result Number Fault
-bounded (Ok n) = cond (leb (n .value) 16777215) (Ok n) (Err Misspelt)
+bounded (Ok n) = cond (leb (n .value) largest) (Ok n) (Err Misspelt)
 bounded (Err f) = Err f
 
 unfoldable pub first-number : List ℕ → Result Number Fault
@@ -53,12 +58,12 @@ Bytes bs = (i : ℕ) → getD bs i 0 < 256
 
 -- what is spelled reads back, whatever follows it
 abbrev pub Reads-back : Type 0
-Reads-back = (n : ℕ) (rest : List ℕ) → n ≤ 16777215 →
+Reads-back = (n : ℕ) (rest : List ℕ) → n ≤ largest →
     first-number (spelling n ++ rest) ≡ Ok (record { value = n; len = length (spelling n) })
 
 -- the bytes begin with the spelling of the number, and it is one that can be spelled
 pub record Begins-with (bs : List ℕ) (n : Number) : Type 0 where
-  pub bound : n .value ≤ 16777215
+  pub bound : n .value ≤ largest
   pub used : n .len ≡ length (spelling (n .value))
   pub front : bs ≡ spelling (n .value) ++ drop (n .len) bs
 
@@ -73,3 +78,16 @@ pub record Cut (bs : List ℕ) : Type 0 where
 
 abbrev pub Ends-where-cut : Type 0
 Ends-where-cut = (bs : List ℕ) → (first-number bs ≡ Err Ends) ↔ Cut bs
+
+-- ---- what a reader of the bytes promises
+
+-- which answer is right, in terms of spelling alone
+abbrev pub Right : List ℕ → Result Number Fault → Type 0
+Right bs (Ok n) = Begins-with bs n
+Right bs (Err Ends) = Cut bs
+Right bs (Err Misspelt) = (Cut bs → ⊥) × ((n : Number) → Begins-with bs n → ⊥)
+
+pub record Read (bs : List ℕ) (r : Result Number Fault) : Type 0 where
+  pub value : r ≡ first-number bs
+  pub right : Right bs r
+  pub within : made r (λ n. (1 ≤ n .len) × (n .len ≤ length bs))

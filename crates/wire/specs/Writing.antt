@@ -7,7 +7,7 @@ use Rattle.std.specs.declared.result.Result.{Result}
 use Rattle.std.specs.declared.result.Result.the-variants.{Ok, Err}
 use Rattle.wire.specs.declared.writing.Unwritten.{Unwritten}
 use Rattle.wire.specs.declared.writing.Unwritten.the-variants.{TooLarge, NoRoom}
-use Rattle.wire.specs.Numbers.{spelling}
+use Rattle.wire.specs.Numbers.{largest, spelling}
 
 -- the bytes w stand at a place of the buffer, and all else is as it was
 pub record Stands (before : List ℕ) (at : ℕ) (w : List ℕ) (next : ℕ) (after : List ℕ) : Type 0 where
@@ -17,6 +17,6 @@ pub record Stands (before : List ℕ) (at : ℕ) (w : List ℕ) (next : ℕ) (af
 
 -- what a call answers that is to write n at a place, and what the buffer holds then
 abbrev pub Written : List ℕ → ℕ → ℕ → Result ℕ Unwritten → List ℕ → Type 0
-Written before at n (Ok next) after = (n ≤ 16777215) × Stands before at (spelling n) next after
-Written before at n (Err TooLarge) after = (16777215 < n) × (after ≡ before)
-Written before at n (Err NoRoom) after = (n ≤ 16777215) × (length before < at + length (spelling n)) × (after ≡ before)
+Written before at n (Ok next) after = (n ≤ largest) × Stands before at (spelling n) next after
+Written before at n (Err TooLarge) after = (largest < n) × (after ≡ before)
+Written before at n (Err NoRoom) after = (n ≤ largest) × (length before < at + length (spelling n)) × (after ≡ before)

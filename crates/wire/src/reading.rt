@@ -4,12 +4,10 @@ ghost use mathlib.Core.Path.{_≡_};
 ghost use mathlib.Core.Bool.{cond};
 ghost use Prim.Native.Nat.{_-_, _≤_};
 ghost use lib.Dec.{eqb, ltb};
-ghost use lib.ListN.{length};
-ghost use Rattle.std.specs.Vec.{made};
 ghost use Rattle.std.specs.declared.result.Result.the-variants.{Ok, Err};
 ghost use Rattle.wire.specs.declared.reading.Fault.the-variants.{Misspelt};
 ghost use Rattle.wire.specs.Faults.{fault-number};
-ghost use Rattle.wire.specs.Numbers.{first-number};
+ghost use Rattle.wire.specs.Numbers.{Read};
 
 /// The largest number that can be spelled.
 pub const MAX_NUMBER: u32 = 16_777_215;
@@ -44,9 +42,7 @@ pub struct Number {
 
 /// The number that `bytes` begin with.
 pub fn read_number(bytes: &[u8]) -> Result<Number, Fault>
-    ensures value { λ r. ⌜ r ≡ first-number (now (bytes .entry)) ⌝ }
-    ensures within { λ r. ⌜ made r (λ n. (1 ≤ n .len) × (n .len ≤ length (now (bytes .entry)))) ⌝ }
-    ensures bounded { λ r. ⌜ made r (λ n. n .value ≤ 16777215) ⌝ }
+    ensures { λ r. ⌜ Read (now (bytes .entry)) r ⌝ }
 {
     let [a, rest @ ..] = bytes else {
         return Err(Fault::Ends);

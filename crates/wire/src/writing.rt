@@ -3,7 +3,7 @@
 ghost use mathlib.Core.Path.{_≡_};
 ghost use Prim.Native.Nat.{_+_, _%_, _≤_};
 ghost use lib.ListN.{length, take};
-ghost use Rattle.wire.specs.Numbers.{spelling};
+ghost use Rattle.wire.specs.Numbers.{largest, spelling};
 ghost use Rattle.wire.specs.Writing.{Written};
 use super::reading::MAX_NUMBER;
 
@@ -40,7 +40,7 @@ struct Spelt {
 
 /// The spelling of a number that has one.
 fn spell(value: u32) -> Spelt
-    requires { ⌜ value ≤ 16777215 ⌝ }
+    requires { ⌜ value ≤ largest ⌝ }
     ensures spelled { λ r. ⌜ take (r .len) (r .bytes) ≡ spelling value ⌝ }
     ensures used { λ r. ⌜ r .len ≡ length (spelling value) ⌝ }
     ensures most { λ r. ⌜ r .len ≤ 4 ⌝ }

@@ -1,4 +1,3 @@
-use native.Mathlib.Omega.{arith}
 use Rattle.model.proofs.Cycles.{multiple-leaves-none}
 use Rattle.model.proofs.figures.Figures.jobs_in.Needs as need
 
