@@ -3,13 +3,18 @@
 
 use model::figures::Figures;
 use model::task::Task;
-use std::io;
+use std::error::AnyError;
 
 mod lane;
 mod request;
 mod story;
 
-fn main(rt: LibcRuntime) -> io::Result<()> {
+fn main(rt: LibcRuntime) -> Result<(), AnyError> {
+    rt.report(converse(&rt))
+}
+
+/// Answers each line of standard input in turn.
+fn converse(rt: &LibcRuntime) -> Result<(), AnyError> {
     let task = Task {
         number: 1,
         core: 0,
@@ -20,13 +25,13 @@ fn main(rt: LibcRuntime) -> io::Result<()> {
             period: 10,
         },
     };
-    story::introduce(&rt, &task)?;
+    story::introduce(rt, &task)?;
     for line in rt.lines(rt.alloc()) {
         let line = line?;
         let text = line.as_str().trim();
         if !text.is_empty() && !text.starts_with('#') {
             println!(rt, "\n> {text}")?;
-            story::answer(&rt, &task, text)?;
+            story::answer(rt, &task, text)?;
         }
     }
     Ok(())
