@@ -1,7 +1,7 @@
 //! What a line asks for: a source, by its name and numbers.
 
-ghost use Prim.Native.Nat.{_<_};
-ghost use Rattle.std.specs.Slices.{found};
+ghost use mathlib.Core.Path.{_≡_};
+ghost use Rattle.console.specs.Hex.{hex-value};
 use std::alloc::AllocError;
 use std::alloc::Global;
 
@@ -69,7 +69,7 @@ fn read_hex(heap: Global, digits: &[u8]) -> Result<Option<Vec<u8>>, AllocError> 
 
 /// The value of a hexadecimal digit.
 fn digit(byte: u8) -> Option<u8>
-    ensures { λ r. ⌜ found r (λ v. v < 16) ⌝ }
+    ensures { λ r. ⌜ r ≡ hex-value byte ⌝ }
 {
     match byte {
         b'0'..=b'9' => Some(byte - b'0'),
