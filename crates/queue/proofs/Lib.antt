@@ -1,0 +1,10 @@
+pub mod Emptying
+pub mod Filling
+pub mod Holes
+pub mod Keys
+pub mod Leasts
+pub mod Putting
+pub mod Shuffles
+pub mod Sifts
+pub mod Taking
+pub mod Unique
