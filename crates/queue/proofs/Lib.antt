@@ -3,6 +3,7 @@ pub mod Filling
 pub mod Holes
 pub mod Keys
 pub mod Leasts
+pub mod Orders
 pub mod Putting
 pub mod Shuffles
 pub mod Sifts
