@@ -16,6 +16,12 @@ lexicographic (x ∷ xs) (y ∷ ys) = cond (eqb x y) (lexicographic xs ys) (ltb 
 abbrev pub phase-key : Phase → List ℕ
 phase-key p = p .start ∷ p .task ∷ p .job ∷ p .length ∷ []
 
+abbrev pub phase-precedes : Phase → Phase → Bool
+phase-precedes p q = lexicographic (phase-key p) (phase-key q)
+
 -- by deadline, then task, job and ticks left
 abbrev pub ready-key : Ready → List ℕ
 ready-key r = r .deadline ∷ r .task ∷ r .job ∷ r .left ∷ []
+
+abbrev pub ready-precedes : Ready → Ready → Bool
+ready-precedes r s = lexicographic (ready-key r) (ready-key s)

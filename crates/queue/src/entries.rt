@@ -1,7 +1,7 @@
 //! The entries that wait: memory phases of the channel, and ready jobs of a core.
 
 ghost use mathlib.Core.Path.{_≡_};
-ghost use Rattle.queue.specs.Keys.{lexicographic, phase-key, ready-key};
+ghost use Rattle.queue.specs.Keys.{lexicographic, phase-key, phase-precedes, ready-key, ready-precedes};
 use super::order::Order;
 
 /// A memory phase: a job of a task holds the channel for `length` ticks from `start` on.
@@ -23,7 +23,7 @@ impl Phase {
 }
 
 pub impl Order for Phase as PhaseOrder {
-    ghost precedes = { λ x y. lexicographic (phase-key x) (phase-key y) };
+    ghost precedes = { phase-precedes };
 
     fn at_or_before(&self, other: &Phase) -> bool {
         compare(self.key(), other.key())
@@ -49,7 +49,7 @@ impl Ready {
 }
 
 pub impl Order for Ready as ReadyOrder {
-    ghost precedes = { λ x y. lexicographic (ready-key x) (ready-key y) };
+    ghost precedes = { ready-precedes };
 
     fn at_or_before(&self, other: &Ready) -> bool {
         compare(self.key(), other.key())
