@@ -1,5 +1,6 @@
 //! The priority queue: a binary heap over a lent slice and a count.
 
+ghost use mathlib.Core.Path.{_≡_};
 ghost use Prim.Native.Nat.{_≤_};
 ghost use lib.ListN.{length};
 use super::order::Order;
@@ -19,3 +20,12 @@ pub struct PriorityQueue<'a, E: Order + Copy> {
 /// Every place of the memory has an entry already.
 #[derive(Clone, Copy, PartialEq, Eq, Debug)]
 pub struct Full;
+
+impl Full {
+    /// The number of the question that a refused put answers with no.
+    pub fn number(self) -> u32
+        ensures { λ r. ⌜ r ≡ 27 ⌝ }
+    {
+        27
+    }
+}
