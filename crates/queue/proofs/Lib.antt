@@ -9,3 +9,4 @@ pub mod Shuffles
 pub mod Sifts
 pub mod Taking
 pub mod Unique
+pub mod Waiting
