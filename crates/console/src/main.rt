@@ -1,6 +1,8 @@
 //! The console. It places one task on a small board by each source that standard input names, a line each,
 //! and shows what the task's jobs then do, or which of them does not fit and why.
 
+#![tactic(auto)]
+
 use model::figures::Figures;
 use model::task::Task;
 

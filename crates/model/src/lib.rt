@@ -1,5 +1,7 @@
 //! The subject: tasks with their figures, where their jobs are placed, and when each job does what.
 
+#![tactic(auto)]
+
 pub mod figures;
 pub mod laws;
 pub mod placing;

@@ -1,5 +1,7 @@
 //! Numbers as bytes: how one is spelled, read and written.
 
+#![tactic(auto)]
+
 pub mod laws;
 pub mod reading;
 #[cfg(test)]

@@ -1,6 +1,6 @@
 //! Reading a number off the front of some bytes.
 
-ghost use Rattle.std.specs.Prelude.{◌≡◌, ◌-◌, ◌≤◌, eqb, ltb, if◌then◌else◌, Ok, Err};
+ghost use Rattle.std.specs.Prelude.{◌≡◌, ◌-◌, ◌≤◌, ◌==◌, nat_lt, if◌then◌else◌, Ok, Err};
 ghost use Rattle.wire.specs.declared.reading.Fault.TheVariants.{Misspelt};
 ghost use Rattle.wire.specs.Faults.{fault_number};
 ghost use Rattle.wire.specs.Numbers.{Read};
@@ -72,7 +72,7 @@ pub fn read_number(bytes: &[u8]) -> Result<Number, Fault>
 
 /// A number of four bytes. A fourth above 7 makes it too large; one from 128 on would also ask for a fifth.
 fn fourth(last: u8, value: u32) -> Result<Number, Fault>
-    ensures { result ≡ (if ltb 7 last then Err Misspelt else (if eqb last 0 then Err Misspelt else Ok (record { value = value; len = 4 }))) }
+    ensures { result ≡ (if nat_lt 7 last then Err Misspelt else (if last == 0 then Err Misspelt else Ok (record { value = value; len = 4 }))) }
 {
     if last > 7 {
         return Err(Fault::Misspelt);
@@ -82,7 +82,7 @@ fn fourth(last: u8, value: u32) -> Result<Number, Fault>
 
 /// A number of several bytes, whose last must not be 0: without it the spelling would be shorter.
 fn shortest(last: u8, value: u32, len: usize) -> Result<Number, Fault>
-    ensures { result ≡ (if eqb last 0 then Err Misspelt else Ok (record { value = value; len = len })) }
+    ensures { result ≡ (if last == 0 then Err Misspelt else Ok (record { value = value; len = len })) }
 {
     if last == 0 {
         Err(Fault::Misspelt)

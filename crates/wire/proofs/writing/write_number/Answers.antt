@@ -5,7 +5,7 @@ use Rattle.wire.proofs.writing.write_number.Goals as goal
 
 pub returns : goal.returns
 returns c =
-    let copied : c.copy-from-slice.new.self ≡ spelling c.args.value = search rules in (
+    let copied : c.copy_from_slice.new.self ≡ spelling c.args.value = search rules in (
       omega arith,
       record {
         end = search rules;
