@@ -1,7 +1,7 @@
 -- A walk over the numbers that bytes spell, and what it comes to.
 use Rattle.std.proofs.Common.{◌≡◌, ℕ, zero, suc, ◌+◌, ◌-◌, ◌<◌, ◌≤◌, List, [], ◌∷◌, ◌++◌, length, take, drop, Some, None, Ok, Err, Result, sym, refl, ap, ◌∙◌, arith}
 use Rattle.std.proofs.lemmas.List.{append_assoc, drop_at, get_or-drop, take_rest}
-use Rattle.std.specs.List.{flat_map, AllByRecursion as All}
+use Rattle.std.specs.List.{flat_map, AllByRecursion}
 use Rattle.wire.specs.declared.reading.Fault.{Fault}
 use Rattle.wire.specs.declared.reading.Number.{Number}
 use Rattle.wire.specs.Numbers.{largest, first_number, spelling, Bytes}
@@ -36,7 +36,7 @@ module _ (bs : List ℕ) (n : Number) (job i : ℕ) (e : Ok n ≡ first_number b
 
 -- ---- what is spelled is listed
 
-spelled_listed : (others : List ℕ) (x : ℕ) (rest : List ℕ) → All (λ n. n ≤ largest) others → x ≤ largest →
+spelled_listed : (others : List ℕ) (x : ℕ) (rest : List ℕ) → AllByRecursion (λ n. n ≤ largest) others → x ≤ largest →
     listed (flat_map spelling others ++ (spelling x ++ rest)) (length others) ≡ Some x
 spelled_listed [] x rest hs h = listed_here (spelling x ++ rest) _ (reads_back x rest h)
 spelled_listed (v ∷ others) x rest hs h =

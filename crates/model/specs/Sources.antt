@@ -1,6 +1,6 @@
 -- What offset sources mean: an offset for each job number, or nothing.
 use Rattle.std.specs.Prelude.{◌≡◌, ℕ, zero, suc, ◌+◌, ◌≤◌, min, ◌↔◌, List, ◌++◌, length, drop, Some, None, Ok, Err, Option, Result}
-use Rattle.std.specs.List.{flat_map, AllByRecursion as All}
+use Rattle.std.specs.List.{flat_map, AllByRecursion}
 use Rattle.wire.specs.declared.reading.Fault.{Fault}
 use Rattle.wire.specs.declared.reading.Number.{Number}
 use Rattle.wire.specs.Numbers.{largest, first_number, spelling, Bytes}
@@ -35,7 +35,7 @@ pub record Spells (bs : List ℕ) (job x : ℕ) : Type 0 where
   pub others : List ℕ
   pub rest : List ℕ
   pub count : length others ≡ job
-  pub bounds : All (λ n. n ≤ largest) others
+  pub bounds : AllByRecursion (λ n. n ≤ largest) others
   pub bound : x ≤ largest
   pub bytes : bs ≡ flat_map spelling others ++ (spelling x ++ rest)
 

@@ -106,7 +106,7 @@ fn a_long_mix_beside_a_sorted_list(rt: HostRuntime) -> Result<(), Fail> {
             assert_eq!(rt; queue.put(phase(code)).is_ok(), room);
             if room {
                 codes.push(code)?;
-                codes.sort();
+                codes.sort()?;
             }
         } else {
             let least = if codes.is_empty() {
@@ -132,7 +132,7 @@ fn sorting_beside_the_codes(rt: HostRuntime) -> Result<(), Fail> {
         codes.push(code)?;
     }
     sort(&mut phases);
-    codes.sort();
+    codes.sort()?;
     for (p, code) in phases.iter().zip(codes.iter()) {
         assert_eq!(rt; *p, phase(*code));
     }

@@ -2,7 +2,7 @@
 -- A number takes at most four bytes, is at most 16,777,215, and is spelled as shortly as it can be.
 -- A byte is a number below 256, a list of bytes a list of such numbers.
 use Rattle.std.specs.Prelude.{◌≡◌, ℕ, zero, suc, ◌+◌, ◌-◌, ◌*◌, ◌/◌, ◌%◌, ◌<◌, ◌≤◌, cond, ◌↔◌, List, [], ◌∷◌, ◌++◌, length, drop, IfOk, Ok, Err, Result, ◌==◌, nat_le, nat_lt, slice_index}
-use Rattle.std.specs.List.{AllByRecursion as All}
+use Rattle.std.specs.List.{AllByRecursion}
 use Rattle.wire.specs.declared.reading.Fault.{Fault}
 use Rattle.wire.specs.declared.reading.Fault.TheVariants.{Ends, Misspelt}
 use Rattle.wire.specs.declared.reading.Number.{Number}
@@ -65,7 +65,7 @@ HasOneSpelling = (bs : List ℕ) (n : Number) → Bytes bs → first_number bs �
 -- no more than three bytes are left, and each says that another follows
 pub record Cut (bs : List ℕ) : Type 0 where
   pub few : length bs ≤ 3
-  pub unfinished : All (λ b. 128 ≤ b) bs
+  pub unfinished : AllByRecursion (λ b. 128 ≤ b) bs
 
 abbrev pub EndsWhereCut : Type 0
 EndsWhereCut = (bs : List ℕ) → (first_number bs ≡ Err Ends) ↔ Cut bs
