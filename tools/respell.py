@@ -6,7 +6,7 @@ usage: python3 tools/respell.py      at the top of the repository, once; it rewr
 
 It reads the definitions of crates/*/specs and crates/*/proofs, and turns each of their names wherever it stands: in
 specs and proofs, in the contracts of src/, in must-fail edits, and in backquotes in README.md and docs/. It stops,
-and writes nothing, where two names would fall together.
+and writes nothing, where two of these names would fall together.
 """
 
 import glob
@@ -54,7 +54,7 @@ def token(names):
 
 def main():
     antt = sorted(p for part in ("specs", "proofs") for p in glob.glob(f"crates/*/{part}/**/*.antt", recursive=True))
-    names = defined(antt) - KEPT
+    names = defined(antt) - KEPT - set(CHOSEN.values())
     if not names:
         print("respell: nothing to do")
         return 0

@@ -98,7 +98,7 @@ one_told_finish H rows s free i l task =
         only = λ g told. omega (arith, ends_once W.wcet r i (l % many rows i) _ _ (told r o) same);
         in_time = omega arith;
         bounds = λ e within q p.
-            let (u, sooner, no-later) = ends_no_later H rows s e within r q o p i l _ task finish in
+            let (u, sooner, no_later) = ends_no_later H rows s e within r q o p i l _ task finish in
             let (g, x, back) = some_finish H rows s e q p i l u (within i l task).0 sooner in
             (g, x, omega arith);
       },
