@@ -1,12 +1,9 @@
+pub mod Changes
 pub mod Emptying
 pub mod Filling
 pub mod Holes
-pub mod Keys
 pub mod Leasts
 pub mod Orders
-pub mod Putting
-pub mod Shuffles
 pub mod Sifts
-pub mod Taking
 pub mod Unique
 pub mod Waiting

@@ -1,19 +1,22 @@
 //! The priority queue: a binary heap over a lent slice and a count.
 
-ghost use Rattle.std.specs.Prelude.{◌≡◌, ◌≤◌, length};
+ghost use Rattle.std.specs.Prelude.{◌≡◌, ◌≤◌, length, take};
+ghost use Rattle.queue.specs.Heaps.{HeapOrdered};
 
 use super::order::Order;
 
 pub mod calls;
+mod sifting;
 pub mod sorting;
 
 /// Entries that wait in memory that is lent, the least to be taken first.
-/// They are the first `count` elements; what lies past those means nothing.
+/// They are the first `count` elements, in the order of a heap; what lies past those means nothing.
 #[derive(Drop)]
 pub struct PriorityQueue<'a, E: Order + Copy> {
     memory: &'a mut [E],
     count: usize,
     ghost within: { count ≤ length memory.now },
+    ghost heaped: { HeapOrdered E.Order.precedes (take count memory.now) },
 }
 
 /// Every place of the memory has an entry already.

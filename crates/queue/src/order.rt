@@ -1,8 +1,9 @@
 //! What it is for entries to have an order.
 
-ghost use Rattle.std.specs.Prelude.{◌≡◌, Bool, true, false};
+ghost use Rattle.std.specs.Prelude.{◌≡◌, Bool};
+ghost use Rattle.queue.specs.Orders.{TotalOrder};
 
-/// A total order. Whoever implements it owes the three laws.
+/// A total order. Whoever implements it owes its laws.
 pub trait Order {
     // of two entries, the first is at or before the second
     ghost precedes: { Self → Self → Bool };
@@ -11,12 +12,5 @@ pub trait Order {
     fn at_or_before(&self, other: &Self) -> bool
         ensures { result ≡ precedes self.now other.now };
 
-    // of any two, at least one is at or before the other
-    ghost total: { (x y : Self) → precedes x y ≡ false → precedes y x ≡ true };
-
-    // two that are each at or before the other are equal
-    ghost antisymmetric: { (x y : Self) → precedes x y ≡ true → precedes y x ≡ true → x ≡ y };
-
-    // the order carries over a third
-    ghost transitive: { (x y z : Self) → precedes x y ≡ true → precedes y z ≡ true → precedes x z ≡ true };
+    ghost laws: { TotalOrder precedes };
 }
