@@ -8,13 +8,13 @@ ghost use Rattle.wire.specs.Numbers.{Read};
 /// The largest number that can be spelled.
 pub const MAX_NUMBER: u32 = 16_777_215;
 
-/// Why no number can be read.
+/// Why no number can be read. Each fault has the number of the question that it answers with no.
 #[derive(Clone, Copy, PartialEq, Eq, Debug)]
 pub enum Fault {
     /// The bytes end before the number does.
-    Ends,
+    Ends = 5,
     /// The number is not in its shortest spelling, or is too large.
-    Misspelt,
+    Misspelt = 6,
 }
 
 impl Fault {
@@ -22,10 +22,7 @@ impl Fault {
     pub fn number(self) -> u32
         ensures { result ≡ fault_number self }
     {
-        match self {
-            Fault::Ends => 5,
-            Fault::Misspelt => 6,
-        }
+        self as u32
     }
 }
 
