@@ -1,5 +1,5 @@
 -- The reading of a number by the places of its bytes, as a program goes through them.
-use Rattle.std.proofs.Common.{◌≡◌, ℕ, ◌+◌, ◌-◌, ◌*◌, cond, eqb, ltb, List, [], ◌∷◌, length, get_or, Ok, Err, Result, refl, ◌∙◌, arith}
+use Rattle.std.proofs.Common.{◌≡◌, ℕ, ◌+◌, ◌-◌, ◌*◌, cond, eqb, ltb, List, [], ◌∷◌, length, get_or, Ok, Err, Result, refl, ◌∙◌, Fits, w8, arith}
 use Rattle.std.proofs.lemmas.Bool.Decides.{nat_tests}
 use Rattle.wire.specs.declared.reading.Fault.{Fault}
 use Rattle.wire.specs.declared.reading.Fault.TheVariants.{Ends, Misspelt}
@@ -20,16 +20,17 @@ by_places len a b c d =
     (cond (ltb len 4) (Err Ends) (cond (ltb 7 d) (Err Misspelt)
     (shortest d (a - 128 + 128 * (b - 128 + 128 * (c - 128 + 128 * d))) 4))))))))
 
+-- reading goes by those places
 first_by_places : (bs : List ℕ) → Bytes bs →
     by_places (length bs) (get_or bs 0 0) (get_or bs 1 0) (get_or bs 2 0) (get_or bs 3 0) ≡ first_number bs
 unfolding first_number
 first_by_places [] h = refl
 first_by_places (a ∷ []) h = grind (arith, nat_tests)
-first_by_places (a ∷ b ∷ []) h = grind (arith, nat_tests, h 0, h 1)
-first_by_places (a ∷ b ∷ c ∷ []) h = grind (arith, nat_tests, h 0, h 1, h 2)
-first_by_places (a ∷ b ∷ c ∷ d ∷ bs) h = grind (arith, nat_tests, h 0, h 1, h 2, h 3)
+first_by_places (a ∷ b ∷ []) h = grind (arith, nat_tests, h 0)
+first_by_places (a ∷ b ∷ c ∷ []) h = grind (arith, nat_tests, h 0, h 1)
+first_by_places (a ∷ b ∷ c ∷ d ∷ bs) h = grind (arith, nat_tests, h 0, h 1, h 2)
 
 -- an answer that goes by the places of the first four bytes is right
-pub read_by_places : (bs : List ℕ) (r : Result Number Fault) → Bytes bs →
+pub read_by_places : (bs : List ℕ) (r : Result Number Fault) → ((i : ℕ) → Fits w8 (get_or bs i 0)) →
     r ≡ by_places (length bs) (get_or bs 0 0) (get_or bs 1 0) (get_or bs 2 0) (get_or bs 3 0) → Read bs r
-read_by_places bs r h e = read bs r h (e ∙ first_by_places bs h)
+read_by_places bs r h e = let bytes : Bytes bs = λ i. omega (arith, h i) in read bs r bytes (e ∙ first_by_places bs bytes)
