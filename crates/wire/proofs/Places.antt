@@ -1,5 +1,5 @@
 -- The reading of a number by the places of its bytes, as a program goes through them.
-use Rattle.std.proofs.Common.{◌≡◌, ℕ, ◌+◌, ◌-◌, ◌*◌, cond, eqb, ltb, List, [], ◌∷◌, length, get_or, Ok, Err, Result, refl, ◌∙◌, Fits, w8, arith}
+use Rattle.std.proofs.Common.{◌≡◌, ℕ, ◌+◌, ◌-◌, ◌*◌, ◌==◌, nat_lt, if◌then◌else◌, List, [], ◌∷◌, length, get_or, Ok, Err, Result, refl, ◌∙◌, Fits, w8, arith}
 use Rattle.std.proofs.lemmas.Bool.Decides.{nat_tests}
 use Rattle.wire.specs.declared.reading.Fault.{Fault}
 use Rattle.wire.specs.declared.reading.Fault.TheVariants.{Ends, Misspelt}
@@ -9,16 +9,16 @@ use Rattle.wire.proofs.Spellings.{read}
 
 -- a spelling of several bytes, by its last
 abbrev shortest : ℕ → ℕ → ℕ → Result Number Fault
-shortest last value len = cond (eqb last 0) (Err Misspelt) (Ok (record { value = value; len = len }))
+shortest last value len = if last == 0 then Err Misspelt else Ok (record { value = value; len = len })
 
 -- the number at the front of so many bytes, of which these are the first four
 abbrev pub by_places : ℕ → ℕ → ℕ → ℕ → ℕ → Result Number Fault
 by_places len a b c d =
-    cond (ltb len 1) (Err Ends) (cond (ltb a 128) (Ok (record { value = a; len = 1 }))
-    (cond (ltb len 2) (Err Ends) (cond (ltb b 128) (shortest b (a - 128 + 128 * b) 2)
-    (cond (ltb len 3) (Err Ends) (cond (ltb c 128) (shortest c (a - 128 + 128 * (b - 128 + 128 * c)) 3)
-    (cond (ltb len 4) (Err Ends) (cond (ltb 7 d) (Err Misspelt)
-    (shortest d (a - 128 + 128 * (b - 128 + 128 * (c - 128 + 128 * d))) 4))))))))
+    if nat_lt len 1 then Err Ends else if nat_lt a 128 then Ok (record { value = a; len = 1 })
+    else if nat_lt len 2 then Err Ends else if nat_lt b 128 then shortest b (a - 128 + 128 * b) 2
+    else if nat_lt len 3 then Err Ends else if nat_lt c 128 then shortest c (a - 128 + 128 * (b - 128 + 128 * c)) 3
+    else if nat_lt len 4 then Err Ends else if nat_lt 7 d then Err Misspelt
+    else shortest d (a - 128 + 128 * (b - 128 + 128 * (c - 128 + 128 * d))) 4
 
 -- reading goes by those places
 first_by_places : (bs : List ℕ) → Bytes bs →

@@ -1,7 +1,7 @@
 -- Numbers in bytes: groups of seven bits, the lowest first, one to a byte, the top bit set on all but the last.
 -- A number takes at most four bytes, is at most 16,777,215, and is spelled as shortly as it can be.
 -- A byte is a number below 256, a list of bytes a list of such numbers.
-use Rattle.std.specs.Prelude.{◌≡◌, ℕ, zero, suc, ◌+◌, ◌-◌, ◌*◌, ◌/◌, ◌%◌, ◌<◌, ◌≤◌, cond, ◌↔◌, List, [], ◌∷◌, ◌++◌, length, drop, IfOk, Ok, Err, Result, ◌==◌, nat_le, nat_lt, slice_index}
+use Rattle.std.specs.Prelude.{◌≡◌, ℕ, zero, suc, ◌+◌, ◌-◌, ◌*◌, ◌/◌, ◌%◌, ◌<◌, ◌≤◌, if◌then◌else◌, ◌↔◌, List, [], ◌∷◌, ◌++◌, length, drop, IfOk, Ok, Err, Result, ◌==◌, nat_le, nat_lt, slice_index}
 use Rattle.std.specs.List.{AllByRecursion}
 use Rattle.wire.specs.declared.reading.Fault.{Fault}
 use Rattle.wire.specs.declared.reading.Fault.TheVariants.{Ends, Misspelt}
@@ -16,7 +16,7 @@ largest = 16777215
 -- the groups of a number, where so many may follow the first
 abbrev pub groups : ℕ → ℕ → List ℕ
 groups zero n = n ∷ []
-groups (suc more) n = cond (nat_lt n 128) (n ∷ []) ((n % 128 + 128) ∷ groups more (n / 128))
+groups (suc more) n = if nat_lt n 128 then n ∷ [] else (n % 128 + 128) ∷ groups more (n / 128)
 
 unfoldable pub spelling : ℕ → List ℕ
 spelling n = groups 3 n
@@ -25,17 +25,17 @@ spelling n = groups 3 n
 
 -- a group below the number that the next bytes spell; were that number 0, the spelling would be too long
 abbrev pub onto : ℕ → Result Number Fault → Result Number Fault
-onto group (Ok n) = cond (n.value == 0) (Err Misspelt) (Ok (record { value = group + 128 * n.value; len = n.len + 1 }))
+onto group (Ok n) = if n.value == 0 then Err Misspelt else Ok (record { value = group + 128 * n.value; len = n.len + 1 })
 onto group (Err f) = Err f
 
 -- the number that the bytes begin with, where so many bytes may follow its first
 abbrev pub joined_groups : ℕ → List ℕ → Result Number Fault
 joined_groups more [] = Err Ends
-joined_groups zero (b ∷ bs) = cond (nat_lt b 128) (Ok (record { value = b; len = 1 })) (Err Misspelt)
-joined_groups (suc more) (b ∷ bs) = cond (nat_lt b 128) (Ok (record { value = b; len = 1 })) (onto (b - 128) (joined_groups more bs))
+joined_groups zero (b ∷ bs) = if nat_lt b 128 then Ok (record { value = b; len = 1 }) else Err Misspelt
+joined_groups (suc more) (b ∷ bs) = if nat_lt b 128 then Ok (record { value = b; len = 1 }) else onto (b - 128) (joined_groups more bs)
 
 abbrev pub bounded : Result Number Fault → Result Number Fault
-bounded (Ok n) = cond (nat_le n.value largest) (Ok n) (Err Misspelt)
+bounded (Ok n) = if nat_le n.value largest then Ok n else Err Misspelt
 bounded (Err f) = Err f
 
 unfoldable pub first_number : List ℕ → Result Number Fault

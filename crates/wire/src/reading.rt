@@ -69,7 +69,7 @@ pub fn read_number(bytes: &[u8]) -> Result<Number, Fault>
 
 /// A number of four bytes. A fourth above 7 makes it too large; one from 128 on would also ask for a fifth.
 fn fourth(last: u8, value: u32) -> Result<Number, Fault>
-    ensures { result ≡ (if nat_lt 7 last then Err Misspelt else (if last == 0 then Err Misspelt else Ok (record { value = value; len = 4 }))) }
+    ensures { result ≡ (if nat_lt 7 last then Err Misspelt else if last == 0 then Err Misspelt else Ok (record { value = value; len = 4 })) }
 {
     if last > 7 {
         return Err(Fault::Misspelt);
