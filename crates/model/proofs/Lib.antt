@@ -7,7 +7,6 @@ pub mod Cycles
 pub mod Endings
 pub mod Examples
 pub mod Existence
-pub mod Fillings
 pub mod Finishes
 pub mod FirstCycle
 pub mod JobSums

@@ -15,28 +15,16 @@ pub record OffsetsBelow (m : Meaning) (n : ℕ) (before after : List ℕ) : Type
 abbrev pub InTimeBelow : Figures → List ℕ → ℕ → Type 0
 InTimeBelow f offsets n = (j : ℕ) → j < n → InTime f.memory f.compute f.deadline (slice_index offsets j)
 
--- ---- the two questions, by their answers
+-- of the jobs below n, this is the first that is not in time with its offset
+abbrev pub FirstLate : Figures → List ℕ → ℕ → ℕ → Type 0
+FirstLate f offsets n job =
+    (job < n) × (¬ InTime f.memory f.compute f.deadline (slice_index offsets job)) × InTimeBelow f offsets job
 
--- has the source an offset for every job?
-abbrev pub ReadAll : Meaning → ℕ → List ℕ → Result (Unit {0}) Misplaced → List ℕ → Type 0
-ReadAll m jobs before (Ok x) after = OffsetsBelow m jobs before after
-ReadAll m jobs before (Err NoRoom) after = ⊥
-ReadAll m jobs before (Err (NoOffset job)) after = (job < jobs) × (m job ≡ None) × OffsetsBelow m job before after
-ReadAll m jobs before (Err (TooLate job)) after = ⊥
-
--- is every job in time?
-abbrev pub AllInTime : Figures → List ℕ → ℕ → Result (Unit {0}) Misplaced → Type 0
-AllInTime f offsets jobs (Ok x) = InTimeBelow f offsets jobs
-AllInTime f offsets jobs (Err NoRoom) = ⊥
-AllInTime f offsets jobs (Err (NoOffset job)) = ⊥
-AllInTime f offsets jobs (Err (TooLate job)) =
-    (job < jobs) × (InTime f.memory f.compute f.deadline (slice_index offsets job) → ⊥) × InTimeBelow f offsets job
-
--- ---- both, one after the other
-
+-- that every job has an offset is settled before any is asked whether it is in time
 abbrev pub Placed : Figures → Meaning → ℕ → List ℕ → Result (Unit {0}) Misplaced → List ℕ → Type 0
 Placed f m jobs before (Ok x) after = (jobs ≤ length before) × OffsetsBelow m jobs before after × InTimeBelow f after jobs
 Placed f m jobs before (Err NoRoom) after = (length before < jobs) × (after ≡ before)
-Placed f m jobs before (Err (NoOffset job)) after = (jobs ≤ length before) × ReadAll m jobs before (Err (NoOffset job)) after
+Placed f m jobs before (Err (NoOffset job)) after =
+    (jobs ≤ length before) × (job < jobs) × (m job ≡ None) × OffsetsBelow m job before after
 Placed f m jobs before (Err (TooLate job)) after =
-    (jobs ≤ length before) × OffsetsBelow m jobs before after × AllInTime f after jobs (Err (TooLate job))
+    (jobs ≤ length before) × OffsetsBelow m jobs before after × FirstLate f after jobs job

@@ -1,7 +1,7 @@
 //! Placing the jobs of a cycle by a source's offsets.
 
-ghost use Rattle.std.specs.Prelude.{◌≤◌, length};
-ghost use Rattle.model.specs.Placing.{Placed, ReadAll, AllInTime};
+ghost use Rattle.std.specs.Prelude.{length, IfNone, IfSome};
+ghost use Rattle.model.specs.Placing.{Placed, InTimeBelow, FirstLate};
 
 use super::figures::Figures;
 use super::source::OffsetSource;
@@ -30,33 +30,25 @@ pub fn place<S: OffsetSource>(
     if offsets.len() < jobs as usize {
         return Err(Misplaced::NoRoom);
     }
-    read_all(source, jobs, offsets)?;
-    all_in_time(figures, jobs, offsets)
-}
-
-/// Reads the offset of each job into its place, up to the first that has none.
-fn read_all<S: OffsetSource>(source: &S, jobs: u32, offsets: &mut [u32]) -> Result<(), Misplaced>
-    requires { jobs ≤ length offsets.old }
-    ensures { ReadAll (S.OffsetSource.meaning source.now) jobs offsets.old result offsets.new }
-{
-    for job in 0..jobs {
-        let Some(offset) = source.offset(job) else {
+    // One place for each job, so that the index of a place is the number of its job.
+    let offsets = &mut offsets[..jobs as usize];
+    for (job, offset) in offsets.iter_mut().enumerate() {
+        let job = job as u32;
+        let Some(found) = source.offset(job) else {
             return Err(Misplaced::NoOffset { job });
         };
-        offsets[job as usize] = offset;
+        *offset = found;
     }
-    Ok(())
+    match first_late(figures, offsets) {
+        Some(job) => Err(Misplaced::TooLate { job: job as u32 }),
+        None => Ok(()),
+    }
 }
 
-/// Looks for the first job that is not in time.
-fn all_in_time(figures: &Figures, jobs: u32, offsets: &[u32]) -> Result<(), Misplaced>
-    requires { jobs ≤ length offsets.now }
-    ensures { AllInTime figures.now offsets.now jobs result }
+/// The first job that is not in time with its offset.
+fn first_late(figures: &Figures, offsets: &[u32]) -> Option<usize>
+    ensures none { IfNone result (InTimeBelow figures.now offsets.now (length offsets.now)) }
+    ensures first { IfSome result (FirstLate figures.now offsets.now (length offsets.now)) }
 {
-    for job in 0..jobs {
-        if !figures.in_time(offsets[job as usize]) {
-            return Err(Misplaced::TooLate { job });
-        }
-    }
-    Ok(())
+    offsets.iter().position(|&offset| !figures.in_time(offset))
 }
