@@ -1,8 +1,8 @@
 -- What offset sources mean: an offset for each job number, or nothing.
-use Rattle.std.specs.Prelude.{◌≡◌, ℕ, zero, suc, ◌+◌, ◌≤◌, min, ◌↔◌, List, ◌++◌, length, drop, Some, None, Ok, Err, Option, Result}
+use Rattle.std.specs.Prelude.{◌≡◌, ℕ, zero, suc, ◌+◌, ◌≤◌, min, ◌↔◌, List, ◌++◌, length, drop, Some, Option}
 use Rattle.std.specs.List.{flat_map, AllByRecursion}
-use Rattle.wire.specs.declared.reading.Fault.{Fault}
-use Rattle.wire.specs.declared.reading.Number.{Number}
+use Rattle.std.specs.Option.{option_map, option_and_then}
+use Rattle.std.specs.Result.{result_ok}
 use Rattle.wire.specs.Numbers.{largest, first_number, spelling, Bytes}
 
 abbrev pub Meaning : Type 0
@@ -12,23 +12,14 @@ Meaning = ℕ → Option ℕ
 abbrev pub steady : ℕ → Meaning
 steady offset job = Some offset
 
--- what follows from a number that was read; nothing where there was none
-abbrev pub where_read : Result Number Fault → (Number → Option ℕ) → Option ℕ
-where_read (Ok n) next = next n
-where_read (Err f) next = None
-
--- the number that follows so many others in the bytes
+-- the number that follows so many others in the bytes; nothing where one of them cannot be read
 unfoldable pub listed : List ℕ → Meaning
-listed bs zero = where_read (first_number bs) (λ n. Some n.value)
-listed bs (suc job) = where_read (first_number bs) (λ n. listed (drop n.len bs) job)
+listed bs zero = option_map (λ n. n.value) (result_ok (first_number bs))
+listed bs (suc job) = option_and_then (λ n. listed (drop n.len bs) job) (result_ok (first_number bs))
 
--- a lag added to an offset, stopping at 4,294,967,295; nothing stays nothing
-abbrev pub later : ℕ → Option ℕ → Option ℕ
-later lag (Some offset) = Some (min (offset + lag) 4294967295)
-later lag None = None
-
+-- another meaning with a lag added to each offset, stopping at 4,294,967,295; nothing stays nothing
 abbrev pub late : ℕ → Meaning → Meaning
-late lag below job = later lag (below job)
+late lag below job = option_map (λ offset. min (offset + lag) 4294967295) (below job)
 
 -- the bytes spell so many numbers, then x, and then anything
 pub record Spells (bs : List ℕ) (job x : ℕ) : Type 0 where

@@ -37,18 +37,14 @@ pub struct Listed<'a> {
 impl OffsetSource for Listed<'_> {
     ghost meaning = { λ s. listed s.bytes.now };
 
+    #[tactic(auto, using(crate::proofs::Walks::listed_steps))]
     fn offset(&self, job: u32) -> Option<u32> {
         let mut rest = self.bytes;
         for _ in 0..job {
-            let Ok(Number { len, .. }) = read_number(rest) else {
-                return None;
-            };
+            let Number { len, .. } = read_number(rest).ok()?;
             rest = &rest[len..];
         }
-        match read_number(rest) {
-            Ok(number) => Some(number.value),
-            Err(_) => None,
-        }
+        read_number(rest).ok().map(|number| number.value)
     }
 }
 
@@ -63,9 +59,8 @@ impl<S: OffsetSource> OffsetSource for Late<S> {
     ghost meaning = { λ s. late s.lag (S.OffsetSource.meaning s.below) };
 
     fn offset(&self, job: u32) -> Option<u32> {
-        match self.below.offset(job) {
-            Some(offset) => Some(offset.saturating_add(self.lag)),
-            None => None,
-        }
+        self.below
+            .offset(job)
+            .map(|offset| offset.saturating_add(self.lag))
     }
 }
