@@ -1,6 +1,6 @@
 //! A task, and when each of its endless jobs does what.
 
-ghost use Rattle.std.specs.Option.{MatchOption};
+ghost use Rattle.std.specs.Prelude.{◌↔◌, IsSome, IfSome};
 ghost use Rattle.model.specs.Timelines.{row_of, Fitting, Happens};
 
 use super::figures::Figures;
@@ -28,7 +28,8 @@ impl Task {
     /// The timeline of job 0, 1, 2 or any later one, of a task that is placed by the offsets of one cycle;
     /// none where there are no offsets, or the job is not in time with its own.
     pub fn timeline(&self, offsets: &[u32], job: u32) -> Option<Timeline>
-        ensures { MatchOption result (Fitting (row_of self.now offsets.now) job → ⊥) (λ t. Happens (row_of self.now offsets.now) job t) }
+        ensures fitting { IsSome result ↔ Fitting (row_of self.now offsets.now) job }
+        ensures happens { IfSome result (Happens (row_of self.now offsets.now) job) }
     {
         if offsets.is_empty() {
             return None;
