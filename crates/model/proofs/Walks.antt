@@ -1,5 +1,5 @@
 -- A walk over the numbers that bytes spell, and what it comes to.
-use Rattle.std.proofs.Common.{◌≡◌, ℕ, zero, suc, ◌+◌, ◌-◌, ◌<◌, ◌≤◌, List, [], ◌∷◌, ◌++◌, length, drop, Some, Ok, Err, Result, sym, refl, ap, ◌∙◌, arith}
+use Rattle.std.proofs.Common.{◌≡◌, ℕ, zero, suc, ◌+◌, ◌-◌, ◌<◌, ◌≤◌, List, [], ◌∷◌, ◌++◌, length, drop, Some, Ok, Err, Result, refl, ap, arith}
 use Rattle.std.proofs.lemmas.List.{append_assoc, drop_at, get_or-drop, take_rest}
 use Rattle.std.specs.List.{flat_map, AllByRecursion}
 use Rattle.std.specs.Option.{option_map, option_and_then}
@@ -58,7 +58,7 @@ more_numbers bs n job x h e s =
       count = ap suc s.count;
       bounds = (begins.bound, s.bounds);
       bound = s.bound;
-      bytes = begins.front ∙ (ap (λ ys. spelling n.value ++ ys) s.bytes ∙ sym (append_assoc (spelling n.value) _ _));
+      bytes = rw (append_assoc, ← s.bytes) begins.front;
     }
 
 listed_spelled : (job : ℕ) (bs : List ℕ) (x : ℕ) → Bytes bs → (r : Result Number Fault) → first_number bs ≡ r → listed bs job ≡ Some x → Spells bs job x

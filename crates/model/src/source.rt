@@ -50,7 +50,7 @@ impl OffsetSource for Listed<'_> {
 
 /// Another source with `lag` added to each of its offsets, as far as 32 bits go.
 #[derive(Clone, Copy, Debug)]
-pub struct Late<S: OffsetSource> {
+pub struct Late<S> {
     pub below: S,
     pub lag: u32,
 }
