@@ -1,9 +1,8 @@
 //! Reading a number off the front of some bytes.
 
-ghost use Rattle.std.specs.Prelude.{◌≡◌, ◌-◌, ◌≤◌, ◌==◌, nat_lt, if◌then◌else◌, Ok, Err};
-ghost use Rattle.wire.specs.declared.reading.Fault.TheVariants.{Misspelt};
+ghost use Rattle.std.specs.Prelude.{◌≡◌, ◌+◌, ◌^◌, ◌<◌, ◌≤◌, IfOk};
 ghost use Rattle.wire.specs.Faults.{fault_number};
-ghost use Rattle.wire.specs.Numbers.{Read};
+ghost use Rattle.wire.specs.Numbers.{joined_groups, Read};
 
 /// The largest number that can be spelled.
 pub const MAX_NUMBER: u32 = 16_777_215;
@@ -37,61 +36,40 @@ pub struct Number {
 pub fn read_number(bytes: &[u8]) -> Result<Number, Fault>
     ensures { Read bytes.now result }
 {
-    let [a, rest @ ..] = bytes else {
+    let number = read_groups(bytes, 3)?;
+    if number.value > MAX_NUMBER {
+        return Err(Fault::Misspelt);
+    }
+    Ok(number)
+}
+
+/// The number that `bytes` begin with, where at most `more` bytes follow its first.
+/// The first has its lowest seven bits, and a top bit that says whether the rest have more of it.
+fn read_groups(bytes: &[u8], more: u32) -> Result<Number, Fault>
+    requires { more ≤ 3 }
+    ensures number { result ≡ joined_groups more bytes.now }
+    ensures value { IfOk result (λ n. n.value < 128 ^ (more + 1)) }
+    ensures used { IfOk result (λ n. n.len ≤ more + 1) }
+{
+    let [first, rest @ ..] = bytes else {
         return Err(Fault::Ends);
     };
-    if *a < 128 {
+    if *first < 128 {
         return Ok(Number {
-            value: u32::from(*a),
+            value: u32::from(*first),
             len: 1,
         });
     }
-    let [b, rest @ ..] = rest else {
-        return Err(Fault::Ends);
-    };
-    if *b < 128 {
-        return shortest(*b, low(*a) + 128 * u32::from(*b), 2);
-    }
-    let [c, rest @ ..] = rest else {
-        return Err(Fault::Ends);
-    };
-    if *c < 128 {
-        return shortest(*c, low(*a) + 128 * (low(*b) + 128 * u32::from(*c)), 3);
-    }
-    let [d, ..] = rest else {
-        return Err(Fault::Ends);
-    };
-    fourth(
-        *d,
-        low(*a) + 128 * (low(*b) + 128 * (low(*c) + 128 * u32::from(*d))),
-    )
-}
-
-/// A number of four bytes. A fourth above 7 makes it too large; one from 128 on would also ask for a fifth.
-fn fourth(last: u8, value: u32) -> Result<Number, Fault>
-    ensures { result ≡ (if nat_lt 7 last then Err Misspelt else if last == 0 then Err Misspelt else Ok (record { value = value; len = 4 })) }
-{
-    if last > 7 {
+    if more == 0 {
         return Err(Fault::Misspelt);
     }
-    shortest(last, value, 4)
-}
-
-/// A number of several bytes, whose last must not be 0: without it the spelling would be shorter.
-fn shortest(last: u8, value: u32, len: usize) -> Result<Number, Fault>
-    ensures { result ≡ (if last == 0 then Err Misspelt else Ok (record { value = value; len = len })) }
-{
-    if last == 0 {
-        Err(Fault::Misspelt)
-    } else {
-        Ok(Number { value, len })
+    let above = read_groups(rest, more - 1)?;
+    // with nothing above its lowest seven bits, the number has a shorter spelling
+    if above.value == 0 {
+        return Err(Fault::Misspelt);
     }
-}
-
-/// The seven bits of a byte whose top bit is set.
-fn low(byte: u8) -> u32
-    requires { 128 ≤ byte }
-    ensures { result ≡ byte - 128 }
-{
-    u32::from(byte) - 128
+    Ok(Number {
+        value: u32::from(*first) - 128 + 128 * above.value,
+        len: above.len + 1,
+    })
 }
