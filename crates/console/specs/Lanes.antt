@@ -14,3 +14,7 @@ abbrev pub Marked : List ℕ → ℕ → ℕ → ℕ → List ℕ → Type 0
 Marked before from len job after =
     (tick : ℕ) → tick < width →
     slice_index after tick ≡ cond (nat_le from tick && nat_lt tick (from + len)) (48 + job % 10) (slice_index before tick)
+
+-- each tick shows its last digit
+abbrev pub Ruled : List ℕ → Type 0
+Ruled cells = (tick : ℕ) → tick < width → slice_index cells tick ≡ 48 + tick % 10

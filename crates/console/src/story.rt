@@ -3,7 +3,7 @@
 ghost use Rattle.std.specs.Prelude.{◌≡◌, length};
 ghost use Rattle.model.specs.Placing.{InTimeBelow};
 
-use super::lane::{CYCLE, Lane, RULER};
+use super::lane::{CYCLE, Lane};
 use super::request;
 use super::request::Base;
 use model::figures::Figures;
@@ -134,7 +134,7 @@ fn tell(rt: &HostRuntime, task: &Task, jobs: u32, offsets: &[u32]) -> io::Result
         busy.mark(timeline.release, task.figures.compute, job);
         deadlines.mark(timeline.deadline, 1, job);
     }
-    println!(rt; "  ticks      {RULER}")?;
+    println!(rt; "  ticks      {}", Lane::ruler())?;
     println!(rt; "  activated  {activations}")?;
     println!(rt; "  channel    {channel}")?;
     for core in 0..CORES {
