@@ -7,6 +7,8 @@ use model::figures::Figures;
 use model::task::Task;
 
 mod lane;
+mod placement;
+mod refusal;
 mod request;
 mod story;
 
@@ -15,7 +17,7 @@ fn main(rt: HostRuntime) -> anyhow::Result<()> {
 }
 
 /// Answers each line of standard input in turn.
-fn converse(rt: &HostRuntime) -> anyhow::Result<()> {
+fn converse(rt: &(impl Input + Print + AllocGlobal)) -> anyhow::Result<()> {
     let task = Task {
         number: 1,
         core: 0,
@@ -32,7 +34,7 @@ fn converse(rt: &HostRuntime) -> anyhow::Result<()> {
         let text = line.as_str().trim();
         if !text.is_empty() && !text.starts_with('#') {
             println!(rt; "\n> {text}")?;
-            story::answer(rt, &task, text)?;
+            story::answer(rt, rt.alloc(), &task, text)?;
         }
     }
     Ok(())

@@ -1,9 +1,10 @@
 //! What a line asks for: a source, by its name and numbers.
 
 ghost use Rattle.std.specs.Prelude.{◌≡◌};
-ghost use Rattle.console.specs.Hex.{hex_value};
+ghost use Rattle.console.specs.Hex.{hex_value, hex_byte};
 
-use std::alloc::{AllocError, Global};
+use super::refusal::Refusal;
+use std::alloc::Global;
 
 /// A source as a line names it: lags, the outermost first, over a steady offset or a list.
 #[derive(Drop)]
@@ -18,52 +19,49 @@ pub enum Base {
     Listed(Vec<u8>),
 }
 
-/// Reads `steady X`, `listed HEX`, or one of them after some `late L`; nothing where the words are none of these.
-pub(crate) fn read(heap: Global, words: &[&str]) -> Result<Option<Request>, AllocError> {
-    let mut lags = Vec::new(heap);
-    let mut rest = words;
-    while let ["late", lag, below @ ..] = rest {
-        let Ok(lag) = lag.parse::<u32>() else {
-            return Ok(None);
+impl Request {
+    /// Reads `steady X`, `listed HEX`, or one of them after some `late L`.
+    pub(crate) fn read(heap: Global, words: &[&str]) -> Result<Request, Refusal> {
+        let [lags @ .., name, value] = words else {
+            return Err(Refusal::NotUnderstood);
         };
-        lags.push(lag)?;
-        rest = below;
-    }
-    match read_base(heap, rest)? {
-        Some(base) => Ok(Some(Request { lags, base })),
-        None => Ok(None),
+        Ok(Request {
+            lags: lags.chunks(2).map(read_lag).try_collect(heap)?,
+            base: read_base(heap, name, value)?,
+        })
     }
 }
 
-fn read_base(heap: Global, words: &[&str]) -> Result<Option<Base>, AllocError> {
+fn read_lag(words: &[&str]) -> Result<u32, Refusal> {
     match words {
-        ["steady", offset] => match offset.parse::<u32>() {
-            Ok(offset) => Ok(Some(Base::Steady(offset))),
-            Err(_) => Ok(None),
-        },
-        ["listed", digits] => match read_hex(heap, digits.as_bytes())? {
-            Some(bytes) => Ok(Some(Base::Listed(bytes))),
-            None => Ok(None),
-        },
-        _ => Ok(None),
+        ["late", lag] => Ok(lag.parse()?),
+        _ => Err(Refusal::NotUnderstood),
+    }
+}
+
+fn read_base(heap: Global, name: &str, value: &str) -> Result<Base, Refusal> {
+    match name {
+        "steady" => Ok(Base::Steady(value.parse()?)),
+        "listed" => Ok(Base::Listed(read_hex(heap, value.as_bytes())?)),
+        _ => Err(Refusal::NotUnderstood),
     }
 }
 
 /// The bytes that pairs of hexadecimal digits spell.
-fn read_hex(heap: Global, digits: &[u8]) -> Result<Option<Vec<u8>>, AllocError> {
-    let mut bytes = Vec::new(heap);
-    let mut rest = digits;
-    while let [high, low, more @ ..] = rest {
-        let (Some(high), Some(low)) = (digit(*high), digit(*low)) else {
-            return Ok(None);
-        };
-        bytes.push(16 * high + low)?;
-        rest = more;
-    }
-    if rest.is_empty() {
-        Ok(Some(bytes))
-    } else {
-        Ok(None)
+fn read_hex(heap: Global, digits: &[u8]) -> Result<Vec<u8>, Refusal> {
+    digits
+        .chunks(2)
+        .map(|pair| byte(pair).ok_or(Refusal::NotUnderstood))
+        .try_collect(heap)
+}
+
+/// The byte that a pair of hexadecimal digits spells.
+fn byte(pair: &[u8]) -> Option<u8>
+    ensures { result ≡ hex_byte pair.now }
+{
+    match pair {
+        [high, low] => Some(16 * digit(*high)? + digit(*low)?),
+        _ => None,
     }
 }
 
@@ -71,10 +69,6 @@ fn read_hex(heap: Global, digits: &[u8]) -> Result<Option<Vec<u8>>, AllocError> 
 fn digit(byte: u8) -> Option<u8>
     ensures { result ≡ hex_value byte }
 {
-    match byte {
-        b'0'..=b'9' => Some(byte - b'0'),
-        b'a'..=b'f' => Some(byte - b'a' + 10),
-        b'A'..=b'F' => Some(byte - b'A' + 10),
-        _ => None,
-    }
+    let value = char::from(byte).to_digit(16)?;
+    Some(value as u8)
 }

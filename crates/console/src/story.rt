@@ -1,25 +1,23 @@
 //! What becomes of a task, in words and as a picture.
 
-ghost use Rattle.std.specs.Prelude.{◌≡◌, length};
-ghost use Rattle.model.specs.Placing.{InTimeBelow};
+ghost use Rattle.std.specs.Prelude.{◌≡◌, ◌<◌, ◌≤◌, length};
+ghost use Rattle.console.specs.Placements.{Answers, lagged};
 
 use super::lane::{CYCLE, Lane};
-use super::request;
-use super::request::Base;
+use super::placement::Placement;
+use super::refusal::Refusal;
+use super::request::{Base, Request};
 use model::figures::Figures;
-use model::placing::{Misplaced, place};
 use model::source::{Late, Listed, OffsetSource, Steady};
 use model::task::{Task, Timeline};
+use std::alloc::{AllocError, Global};
 use std::io;
 
 /// The cores of the board.
 const CORES: u32 = 2;
 
-/// The most jobs that a cycle may have.
-const MAX_JOBS: usize = 1024;
-
 /// Says who the task is and what it asks for.
-pub(crate) fn introduce(rt: &HostRuntime, task: &Task) -> io::Result<()> {
+pub(crate) fn introduce(rt: &impl Print, task: &Task) -> io::Result<()> {
     let Task {
         number,
         core,
@@ -33,145 +31,99 @@ pub(crate) fn introduce(rt: &HostRuntime, task: &Task) -> io::Result<()> {
 }
 
 /// Answers a line that names a source.
-pub(crate) fn answer(rt: &HostRuntime, task: &Task, text: &str) -> io::Result<()> {
-    let words: Vec<&str> = text.split_whitespace().collect(rt.alloc())?;
-    let Some(request) = request::read(rt.alloc(), words.as_slice())? else {
-        return misunderstood(rt);
-    };
-    let lags = request.lags.as_slice();
-    match &request.base {
-        Base::Steady(offset) => under_lags(rt, task, lags, Steady { offset: *offset }),
-        Base::Listed(bytes) => under_lags(
-            rt,
-            task,
-            lags,
-            Listed {
-                bytes: bytes.as_slice(),
-            },
-        ),
+pub(crate) fn answer(rt: &impl Print, heap: Global, task: &Task, text: &str) -> io::Result<()> {
+    match place_as_asked(heap, task, text) {
+        Ok(placement) => tell(rt, &placement),
+        Err(Refusal::OutOfMemory) => Err(AllocError.into()),
+        Err(refusal) => println!(rt; "{refusal}"),
     }
 }
 
-fn misunderstood(rt: &HostRuntime) -> io::Result<()> {
-    println!(rt;
-        "not understood: a source is steady X, listed HEX or late L SOURCE, with at most two late"
-    )
+/// Places the task by the source that a line names.
+fn place_as_asked(heap: Global, task: &Task, text: &str) -> Result<Placement, Refusal> {
+    let words: Vec<&str> = text.split_whitespace().collect(heap)?;
+    let Request { lags, base } = Request::read(heap, &words)?;
+    match base {
+        Base::Steady(offset) => under_lags(heap, task, &lags, Steady { offset }),
+        Base::Listed(bytes) => under_lags(heap, task, &lags, Listed { bytes: &bytes }),
+    }
 }
 
-/// Places the task by a source under some lags, the outermost first.
+/// Places the task by a source under some lags, the outermost first. Each lag is a layer of the source's type.
 fn under_lags<S: OffsetSource + Copy>(
-    rt: &HostRuntime,
+    heap: Global,
     task: &Task,
     lags: &[u32],
     base: S,
-) -> io::Result<()> {
-    match lags {
-        [] => by_source(rt, task, &base),
-        [lag] => by_source(
-            rt,
-            task,
-            &Late {
-                below: base,
-                lag: *lag,
-            },
-        ),
+) -> Result<Placement, Refusal>
+    ensures few { length lags.now ≤ 2 → Answers task.now (lagged lags.now (S.OffsetSource.meaning base)) result }
+    ensures many { 2 < length lags.now → result ≡ Err Refusal.NotUnderstood }
+{
+    match *lags {
+        [] => Placement::new(heap, task, &base),
+        [lag] => Placement::new(heap, task, &Late { below: base, lag }),
         [outer, inner] => {
             let below = Late {
                 below: base,
-                lag: *inner,
+                lag: inner,
             };
-            by_source(rt, task, &Late { below, lag: *outer })
+            Placement::new(heap, task, &Late { below, lag: outer })
         }
-        _ => misunderstood(rt),
+        _ => Err(Refusal::NotUnderstood),
     }
 }
 
-/// Places the task by a source, and tells what becomes of it.
-fn by_source<S: OffsetSource>(rt: &HostRuntime, task: &Task, source: &S) -> io::Result<()> {
-    let Some(jobs) = task.figures.jobs_in(CYCLE) else {
-        return println!(rt;
-            "refused: period {} does not divide the cycle",
-            task.figures.period
-        );
-    };
-    let mut offsets = [0; MAX_JOBS];
-    match place(&task.figures, jobs, source, &mut offsets) {
-        Ok(()) => tell(rt, task, jobs, &offsets[0..jobs as usize]),
-        Err(Misplaced::NoRoom) => println!(rt; "refused: a cycle may have at most {MAX_JOBS} jobs"),
-        Err(Misplaced::NoOffset { job }) => println!(rt;
-            "refused: the source has no offset for job {job}"
-        ),
-        Err(Misplaced::TooLate { job }) => too_late(rt, task, job, offsets[job as usize]),
+/// Tells of each job of the cycle, and draws them.
+fn tell(rt: &impl Print, placement: &Placement) -> io::Result<()> {
+    for job in 0..placement.jobs() {
+        tell_job(rt, placement, job)?;
     }
-}
-
-/// Says why a job does not fit.
-fn too_late(rt: &HostRuntime, task: &Task, job: u32, offset: u32) -> io::Result<()> {
-    let figures = task.figures;
-    println!(rt;
-        "refused: job {job} does not fit: offset {offset}, copying {} and computing {} pass its deadline {}",
-        figures.memory, figures.compute, figures.deadline
-    )
-}
-
-/// Tells of each job of the cycle, and draws the channel and the cores.
-fn tell(rt: &HostRuntime, task: &Task, jobs: u32, offsets: &[u32]) -> io::Result<()>
-    requires count { length offsets.now ≡ jobs }
-    requires placed { InTimeBelow task.now.figures offsets.now jobs }
-{
-    let mut activations = Lane::idle();
-    let mut channel = Lane::idle();
-    let mut busy = Lane::idle();
-    let mut deadlines = Lane::idle();
-    for job in 0..jobs {
-        let Some(timeline) = task.timeline(offsets, job) else {
-            unreachable()
-        };
-        let finish = timeline.end - timeline.activation;
-        tell_job(rt, task, job, &timeline, finish)?;
-        activations.mark(timeline.activation, 1, job);
-        channel.mark(timeline.copy, task.figures.memory, job);
-        busy.mark(timeline.release, task.figures.compute, job);
-        deadlines.mark(timeline.deadline, 1, job);
-    }
-    println!(rt; "  ticks      {}", Lane::ruler())?;
-    println!(rt; "  activated  {activations}")?;
-    println!(rt; "  channel    {channel}")?;
-    for core in 0..CORES {
-        let lane = if core == task.core {
-            busy
-        } else {
-            Lane::idle()
-        };
-        println!(rt; "  core {core}     {lane}")?;
-    }
-    println!(rt; "  deadline   {deadlines}")
+    draw(rt, placement)
 }
 
 /// Tells of one job in words.
-fn tell_job(
-    rt: &HostRuntime,
-    task: &Task,
-    job: u32,
-    timeline: &Timeline,
-    finish: u64,
-) -> io::Result<()> {
+fn tell_job(rt: &impl Print, placement: &Placement, job: u32) -> io::Result<()> {
     let Figures {
         memory,
         compute,
         ..
-    } = task.figures;
+    } = placement.task.figures;
     let Timeline {
         activation,
         copy,
         release,
         end,
         deadline,
-    } = *timeline;
+    } = placement.timeline(job);
+    let finish = end - activation;
     println!(rt;
         "  job {job} is activated at tick {activation}, copies {memory} ticks from {copy} on and is released at {release},"
     )?;
     println!(rt;
         "    computes {compute} ticks from there on and ends at {end}, {finish} after its activation; its deadline is {deadline}"
     )
+}
+
+/// Draws the channel and the cores over one cycle.
+fn draw(rt: &impl Print, placement: &Placement) -> io::Result<()> {
+    let Task { core, figures, .. } = placement.task;
+    let mut activations = Lane::idle();
+    let mut channel = Lane::idle();
+    let mut busy = Lane::idle();
+    let mut deadlines = Lane::idle();
+    for job in 0..placement.jobs() {
+        let timeline = placement.timeline(job);
+        activations.mark(timeline.activation, 1, job);
+        channel.mark(timeline.copy, figures.memory, job);
+        busy.mark(timeline.release, figures.compute, job);
+        deadlines.mark(timeline.deadline, 1, job);
+    }
+    println!(rt; "  ticks      {}", Lane::ruler())?;
+    println!(rt; "  activated  {activations}")?;
+    println!(rt; "  channel    {channel}")?;
+    for number in 0..CORES {
+        let lane = if number == core { busy } else { Lane::idle() };
+        println!(rt; "  core {number}     {lane}")?;
+    }
+    println!(rt; "  deadline   {deadlines}")
 }
