@@ -14,12 +14,9 @@ hex_value code =
 -- the byte of two digits' values
 abbrev byte_of : Option ℕ → Option ℕ → Option ℕ
 byte_of (Some high) (Some low) = Some (16 * high + low)
-byte_of (Some high) None = None
-byte_of None low = None
+byte_of _ _ = None
 
 -- the byte that just two digits spell, the higher first
 abbrev pub hex_byte : List ℕ → Option ℕ
 hex_byte (high ∷ low ∷ []) = byte_of (hex_value high) (hex_value low)
-hex_byte (high ∷ low ∷ more ∷ rest) = None
-hex_byte (high ∷ []) = None
-hex_byte [] = None
+hex_byte _ = None

@@ -39,6 +39,7 @@ impl Lane {
         ensures { Marked self.old.cells from len job self.new.cells }
     {
         let shown = digit(job);
+        // Where the sum would pass the last number the range ends there, long after the cycle.
         let ticks = from..from.saturating_add(u64::from(len));
         for (tick, cell) in self.cells.iter_mut().enumerate() {
             if ticks.contains(&(tick as u64)) {

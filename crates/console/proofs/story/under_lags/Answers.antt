@@ -5,9 +5,9 @@ use Rattle.console.proofs.story.under_lags.Goals as goal
 pub returns-in-len1-clause-few : goal.returns-in-len1-clause-few
 returns-in-len1-clause-few g c few =
     let one : length c.args.lags.now ≡ 1 = omega arith in
-    rw (lagged-one c.args.lags.now (g.S.OffsetSource.meaning c.args.base) one) c.new-in-len1.ensures
+    rw (lagged-one _ _ one) c.new-in-len1.ensures
 
 pub returns-in-len2-clause-few : goal.returns-in-len2-clause-few
 returns-in-len2-clause-few g c few =
     let two : length c.args.lags.now ≡ 2 = omega arith in
-    rw (lagged-two c.args.lags.now (g.S.OffsetSource.meaning c.args.base) two) c.new-in-len2.ensures
+    rw (lagged-two _ _ two) c.new-in-len2.ensures
