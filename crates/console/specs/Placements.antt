@@ -30,7 +30,7 @@ Refused task m (TooLate job offset figures) =
     × (m job ≡ Some offset)
     × (figures ≡ task.figures)
     × (InTime figures.memory figures.compute figures.deadline offset → ⊥)
-Refused task m OutOfMemory = Unit {0}
+Refused task m (OutOfMemory error) = Unit {0}
 
 -- what placing a task by a source answers
 abbrev pub Answers : Task → Meaning → Result Placement Refusal → Type 0

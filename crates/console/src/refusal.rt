@@ -5,7 +5,7 @@ ghost use Rattle.console.specs.declared.refusal.Refusal.TheVariants.{NotUndersto
 
 use super::placement::MAX_JOBS;
 use model::figures::Figures;
-use std::alloc::{AllocError, AllocFailed};
+use std::alloc::AllocError;
 use std::num::ParseIntError;
 use thiserror::Error;
 
@@ -30,7 +30,7 @@ pub enum Refusal {
         figures: Figures,
     },
     #[error("out of memory")]
-    OutOfMemory,
+    OutOfMemory(AllocError),
 }
 
 /// A number that cannot be read is not understood.
@@ -43,17 +43,9 @@ impl From<ParseIntError> for Refusal {
 }
 
 impl From<AllocError> for Refusal {
-    ghost from_gives = { λ _ refusal. refusal ≡ OutOfMemory };
+    ghost from_gives = { λ error refusal. refusal ≡ OutOfMemory error };
 
-    fn from(_error: AllocError) -> Refusal {
-        Refusal::OutOfMemory
-    }
-}
-
-impl<T: Drop> From<AllocFailed<T>> for Refusal {
-    ghost from_gives = { λ _ refusal. refusal ≡ OutOfMemory };
-
-    fn from(_error: AllocFailed<T>) -> Refusal {
-        Refusal::OutOfMemory
+    fn from(error: AllocError) -> Refusal {
+        Refusal::OutOfMemory(error)
     }
 }

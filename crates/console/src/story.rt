@@ -10,7 +10,7 @@ use super::request::{Base, Request};
 use model::figures::Figures;
 use model::source::{Late, Listed, OffsetSource, Steady};
 use model::task::{Task, Timeline};
-use std::alloc::{AllocError, Global};
+use std::alloc::Global;
 use std::io;
 
 /// The cores of the board.
@@ -34,7 +34,7 @@ pub(crate) fn introduce(rt: &impl Print, task: &Task) -> io::Result<()> {
 pub(crate) fn answer(rt: &impl Print, heap: Global, task: &Task, text: &str) -> io::Result<()> {
     match place_as_asked(heap, task, text) {
         Ok(placement) => tell(rt, &placement),
-        Err(Refusal::OutOfMemory) => Err(AllocError.into()),
+        Err(Refusal::OutOfMemory(error)) => Err(error.into()),
         Err(refusal) => println!(rt; "{refusal}"),
     }
 }
