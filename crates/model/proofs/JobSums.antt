@@ -1,6 +1,5 @@
 -- Sums over the jobs (i, l) with i < n and l < m.
-use Rattle.std.proofs.Common.{◌≡◌, ℕ, ◌+◌, ◌<◌, ◌≤◌, Bool, cond, inl, inr, arith}
-use Rattle.std.proofs.lemmas.Bool.{cases_lt}
+use Rattle.std.proofs.Common.{◌≡◌, ℕ, ◌+◌, ◌<◌, ◌≤◌, Bool, cond, arith}
 use Rattle.model.specs.Demand.{sum_below}
 use Rattle.model.proofs.Sums.{sum_le, sum_none, sum_le_both, sum_one_more, sum_lt, sum_find}
 
@@ -13,10 +12,10 @@ only p f i l = cond (p i l) (f i l) 0
 
 module _ (n m : ℕ) where
   pub jobs_le : (f g : ℕ → ℕ → ℕ) → ((i l : ℕ) → i < n → l < m → f i l ≤ g i l) → sum_jobs n m f ≤ sum_jobs n m g
-  jobs_le f g h = sum_le n _ _ (λ i p. sum_le m _ _ (λ l. h i l p))
+  jobs_le f g h = grind (arith, sum_le)
 
   pub jobs_none : (f : ℕ → ℕ → ℕ) → ((i l : ℕ) → i < n → l < m → f i l ≡ 0) → sum_jobs n m f ≡ 0
-  jobs_none f h = sum_none n _ (λ i p. sum_none m _ (λ l. h i l p))
+  jobs_none f h = grind (arith, sum_none)
 
   pub jobs_le_both : (f g a b : ℕ → ℕ → ℕ) → ((i l : ℕ) → i < n → l < m → f i l + g i l ≤ a i l + b i l) → sum_jobs n m f + sum_jobs n m g ≤ sum_jobs n m a + sum_jobs n m b
   jobs_le_both f g a b h = sum_le_both n _ _ _ _ (λ i p. sum_le_both m _ _ _ _ (λ l. h i l p))
@@ -31,13 +30,7 @@ module _ (n m : ℕ) where
 
   -- f is at most g, and the sum of g is no larger: so nor is g anywhere
   pub jobs_same : (f g : ℕ → ℕ → ℕ) → ((i l : ℕ) → i < n → l < m → f i l ≤ g i l) → sum_jobs n m g ≤ sum_jobs n m f → (a b : ℕ) → a < n → b < m → g a b ≤ f a b
-  jobs_same f g h le a b p q = elim (cases_lt (f a b) (g a b)) [
-    | inl lt ↦ omega (arith, jobs_lt f g a b h p q lt)
-    | inr ge ↦ ge
-  ]
+  jobs_same f g h le a b p q = grind (arith, jobs_lt f g a b)
 
   pub jobs_find : (f g : ℕ → ℕ → ℕ) → sum_jobs n m f < sum_jobs n m g → (i : ℕ) × (l : ℕ) × (i < n) × (l < m) × (f i l < g i l)
-  jobs_find f g h =
-      let (i, p, lt) = sum_find n (λ i. sum_below m (f i)) (λ i. sum_below m (g i)) h in
-      let (l, q, at) = sum_find m (f i) (g i) lt in
-      (i, l, p, q, at)
+  jobs_find f g h = grind (arith, sum_find)
