@@ -6,7 +6,7 @@ use Rattle.model.specs.Runs.{Run, MeetsDeadlines}
 use Rattle.model.specs.Edf.{Execution, ObeysEdf, WorstCaseRun}
 use Rattle.model.specs.Finishes.{Ends, Finish, Told}
 use Rattle.model.proofs.Cycles.{by_remainder}
-use Rattle.model.proofs.Workloads.{many, again, ordered, cyclic}
+use Rattle.model.proofs.Workloads.{many, ordered, cyclic}
 use Rattle.model.proofs.Agreement.{served_same}
 use Rattle.model.proofs.Repeats.{ends_again}
 use Rattle.model.proofs.Endings.{ends_after_release, ends_alike}
@@ -29,9 +29,8 @@ module _ (H : ℕ) (rows : List Row) (s : Sound H rows) where
         Finish rows (workload rows).wcet r i l f ↔ Finish rows (workload rows).wcet r i (many rows i + l) f
     finishes_again m f l =
         let t = activation (row_at rows i) l + f in
-        let e : H + t ≡ activation (row_at rows i) (many rows i + l) + f = omega (arith, again H (row_at rows i) (s.each i task) l) in
-        subst (λ (u : ℕ). Ends (workload rows).wcet r i l t ↔ Ends (workload rows).wcet r i (many rows i + l) u) e
-        (ends_again (workload rows) H (many rows) (ordered H rows s) (cyclic H rows s) wcet_some r o m i l t task)
+        let e : H + t ≡ activation (row_at rows i) (many rows i + l) + f = omega (arith, s.each i task) in
+        rw e at (ends_again (workload rows) H (many rows) (ordered H rows s) (cyclic H rows s) wcet_some r o m i l t task)
 
     -- .. and so as the same job of the first cycle does
     pub finishes_repeat : MeetsDeadlines (workload rows) r → (l f : ℕ) →

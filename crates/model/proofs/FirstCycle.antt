@@ -1,6 +1,5 @@
 -- The jobs repeat with the cycle and no window crosses its end, so the first cycle tells of all.
-use Rattle.std.proofs.Common.{◌≡◌, ℕ, zero, suc, ◌+◌, ◌-◌, ◌<◌, ◌≤◌, cond, ◌&&◌, leb, ◌⊎◌, sym, refl, ap, ◌∙◌, subst₂, inl, inr, arith}
-use Rattle.std.proofs.lemmas.Bool.{cases_lt}
+use Rattle.std.proofs.Common.{◌≡◌, ℕ, zero, suc, ◌+◌, ◌-◌, ◌<◌, ◌≤◌, ◌⊎◌, refl, inl, inr, arith}
 use Rattle.std.proofs.lemmas.Bool.Decides.{nat_tests}
 use Rattle.model.specs.Workloads.{Workload}
 use Rattle.model.specs.Runs.{Run, served, InWindows, MeetsDeadlines}
@@ -9,8 +8,8 @@ use Rattle.model.specs.Demand.{inside, demand, Overloaded, IsRelease, IsDeadline
 use Rattle.model.proofs.Regularity.{Ordered, Cyclic}
 use Rattle.model.proofs.Sums.{sum_le, sum_shift}
 use Rattle.model.proofs.JobSums.{only}
-use Rattle.model.proofs.Service.{served_grows, cond_none}
-use Rattle.model.proofs.Overloads.{inside_is, none_inside_from, done_by_deadline}
+use Rattle.model.proofs.Service.{served_grows}
+use Rattle.model.proofs.Overloads.{none_inside_from, done_by_deadline}
 
 -- where the cycle c begins
 abbrev start : ℕ → ℕ → ℕ
@@ -21,43 +20,28 @@ start_far : (H c : ℕ) → 0 < H → c ≤ start H c
 start_far H zero h = omega arith
 start_far H (suc c) h = omega (arith, start_far H c h)
 
-shifted : (H a D t u c c' a' D' : ℕ) → a' ≡ H + a → D' ≡ H + D → c' ≡ c → cond (leb (H + t) a' && leb D' (H + u)) c' 0 ≤ cond (leb t a && leb D u) c 0
-shifted H a D t u c c' a' D' p q e = grind (arith, nat_tests)
-
 module _ (W : Workload) (H : ℕ) (many : ℕ → ℕ) (ord : Ordered W) (y : Cyclic W H many) where
-  -- a job after the first cycle, one cycle earlier
-  earlier : (i l : ℕ) → many i ≤ l → many i + (l - many i) ≡ l
-  earlier i l h = omega arith
-
-  earlier_release : (i l : ℕ) → i < W.tasks → many i ≤ l → W.release i l ≡ H + W.release i (l - many i)
-  earlier_release i l t h = ap (W.release i) (sym (earlier i l h)) ∙ y.again_release i (l - many i) t
-
-  earlier_deadline : (i l : ℕ) → i < W.tasks → many i ≤ l → W.deadline i l ≡ H + W.deadline i (l - many i)
-  earlier_deadline i l t h = ap (W.deadline i) (sym (earlier i l h)) ∙ y.again_deadline i (l - many i) t
+  -- a job after the first cycle has its window one cycle after that of an earlier job
+  earlier : (i l : ℕ) → i < W.tasks → many i ≤ l → (W.release i l ≡ H + W.release i (l - many i)) × (W.deadline i l ≡ H + W.deadline i (l - many i))
+  earlier i l t h = grind (arith, y.again_release i (l - many i) t, y.again_deadline i (l - many i) t)
 
   -- what is released within the first cycle is a job of it
   pub in_first : (i l : ℕ) → i < W.tasks → W.release i l < H → l < many i
-  in_first i l t h = elim (cases_lt l (many i)) [ inl lt ↦ lt | inr ge ↦ absurd (omega (arith, earlier_release i l t ge)) ]
+  in_first i l t h = grind (arith, earlier i l t)
 
   past_first : (i l : ℕ) → i < W.tasks → H < W.deadline i l → many i ≤ l
-  past_first i l t h = elim (cases_lt l (many i)) [ inl lt ↦ absurd (omega (arith, y.first i l t lt)) | inr ge ↦ ge ]
+  past_first i l t h = grind (arith, y.first i l t)
 
   demand_shift : (t u : ℕ) → demand W (H + t) (H + u) ≤ demand W t u
   demand_shift t u = sum_le W.tasks _ _ (λ i p. sum_shift (many i) u (H + u) (only (inside W (H + t) (H + u)) W.wcet i) (only (inside W t u) W.wcet i)
-      (λ l q. cond_none (inside W (H + t) (H + u) i l) (W.wcet i l) (λ e. absurd (omega (arith, y.first i l p q, ord.window i l p, inside_is W (H + t) (H + u) i l e))))
-      (λ l. shifted H (W.release i l) (W.deadline i l) t u (W.wcet i l) _ _ _ (y.again_release i l p) (y.again_deadline i l p) (y.again_wcet i l p))
+      (λ l q. grind (arith, nat_tests, y.first i l p q, ord.window i l p))
+      (λ l. grind (arith, nat_tests, y.again_release i l p, y.again_deadline i l p, y.again_wcet i l p))
       (none_inside_from W ord t u i p))
 
   -- a job's window lies before the start of a cycle, or after it
   cases_start : (c i l : ℕ) → i < W.tasks → (W.deadline i l ≤ start H c) ⊎ (start H c ≤ W.release i l)
   cases_start zero i l t = inr (omega arith)
-  cases_start (suc c) i l t = elim (cases_lt l (many i)) [
-    | inl lt ↦ inl (omega (arith, y.first i l t lt))
-    | inr ge ↦ elim (cases_start c i (l - many i) t) [
-      | inl x ↦ inl (omega (arith, earlier_deadline i l t ge))
-      | inr x ↦ inr (omega (arith, earlier_release i l t ge))
-    ]
-  ]
+  cases_start (suc c) i l t = grind (arith, y.first i l t, earlier i l t, cases_start c i (l - many i) t)
 
   module _ (free : NoOverload W H) where
     -- no interval from a release to a deadline within one cycle, the first or a later one, is overloaded
@@ -66,10 +50,9 @@ module _ (W : Workload) (H : ℕ) (many : ℕ → ℕ) (ord : Ordered W) (y : Cy
     never_overloaded (suc c) t1 t2 x z (i, l, p, e) (a, b, q, f) over =
         let t1' = W.release i (l - many i) in
         let t2' = W.deadline a (b - many a) in
-        let back1 : t1 ≡ H + t1' = omega (arith, earlier_release i l p (past_first i l p (omega (arith, ord.window i l p)))) in
-        let back2 : t2 ≡ H + t2' = omega (arith, earlier_deadline a b q (past_first a b q (omega (arith, over.0)))) in
-        let over' : Overloaded W (H + t1') (H + t2') = subst₂ (λ (t u : ℕ). Overloaded W t u) back1 back2 over in
-        never_overloaded c t1' t2' (omega arith) (omega arith) (i, l - many i, p, refl) (a, b - many a, q, refl) (omega (arith, over', demand_shift t1' t2'))
+        let back1 : t1 ≡ H + t1' = omega (arith, earlier i l p (past_first i l p (omega (arith, ord.window i l p)))) in
+        let back2 : t2 ≡ H + t2' = omega (arith, earlier a b q (past_first a b q (omega (arith, over.0)))) in
+        never_overloaded c t1' t2' (omega arith) (omega arith) (i, l - many i, p, refl) (a, b - many a, q, refl) (omega (arith, rw (back1, back2) at over, demand_shift t1' t2'))
 
     module _ (r : Run) (o : WorstCaseRun W r) where
       done_in_cycles : (c i l : ℕ) → i < W.tasks → W.deadline i l ≤ start H c → W.wcet i l ≤ served r i l (W.deadline i l)
@@ -77,10 +60,7 @@ module _ (W : Workload) (H : ℕ) (many : ℕ → ℕ) (ord : Ordered W) (y : Cy
       done_in_cycles (suc c) i l t h = elim (cases_start c i l t) [
         | inl old ↦ done_in_cycles c i l t old
         | inr new ↦ done_by_deadline W ord r o (start H c) (W.deadline i l)
-            (λ a b p lt. elim (cases_start c a b p) [
-              | inl x ↦ omega (arith, done_in_cycles c a b p x, served_grows r a b (W.deadline a b) (start H c) x)
-              | inr x ↦ absurd (omega arith)
-            ])
+            (λ a b p lt. grind (arith, cases_start c a b p, done_in_cycles c a b p, served_grows r a b (W.deadline a b) (start H c)))
             (omega (arith, ord.window i l t))
             (λ t1 x released over. never_overloaded c t1 (W.deadline i l) x h released (i, l, t, refl) over)
             i l t refl
@@ -90,12 +70,4 @@ module _ (W : Workload) (H : ℕ) (many : ℕ → ℕ) (ord : Ordered W) (y : Cy
       meets i l t = done_in_cycles (W.deadline i l) i l t (start_far H (W.deadline i l) y.some)
 
       pub in_windows : InWindows W r
-      in_windows t i l e =
-          let q = o.serves_pending t i l e in (
-            q.task,
-            q.released,
-            elim (cases_lt t (W.deadline i l)) [
-              | inl lt ↦ lt
-              | inr ge ↦ absurd (omega (arith, q.unfinished, meets i l q.task, served_grows r i l (W.deadline i l) t ge))
-            ],
-          )
+      in_windows t i l e = grind (arith, o.serves_pending t i l e, meets i l, served_grows r i l (W.deadline i l) t)

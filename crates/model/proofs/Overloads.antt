@@ -1,6 +1,6 @@
 -- An overloaded interval cannot be served in time, and a job that misses its deadline under earliest deadline first tells of one.
-use Rattle.std.proofs.Common.{◌≡◌, ℕ, suc, ◌+◌, ◌<◌, ◌≤◌, Bool, true, false, cond, ◌&&◌, ltb, inl, inr, arith}
-use Rattle.std.proofs.lemmas.Bool.{cases_lt, le-leb}
+use Rattle.std.proofs.Common.{◌≡◌, ℕ, suc, ◌+◌, ◌<◌, ◌≤◌, inl, inr, arith}
+use Rattle.std.proofs.lemmas.Bool.{cases_lt}
 use Rattle.std.proofs.lemmas.Bool.Decides.{nat_tests}
 use Rattle.model.specs.Workloads.{Workload}
 use Rattle.model.specs.Runs.{Run, served, InWindows, MeetsDeadlines}
@@ -10,92 +10,72 @@ use Rattle.model.proofs.Regularity.{Ordered, due_far}
 use Rattle.model.proofs.Steps.{slow}
 use Rattle.model.proofs.Backlog.{Greedy, served_le, busy}
 use Rattle.model.proofs.JobSums.{only, jobs_le, jobs_le_both, jobs_none, jobs_find}
-use Rattle.model.proofs.Service.{served_grows, served_none, cond_le, cond_none, given, given_slow}
-use Rattle.model.proofs.Urgent.{counts_once_released, released_before, wanted, all_done, greedy}
+use Rattle.model.proofs.Service.{served_grows, served_none, given, given_slow}
+use Rattle.model.proofs.Urgent.{released_before, wanted, all_done, greedy}
 use Rattle.model.proofs.Priorities.{due_by, urgent_due}
 
-pub inside_is : (W : Workload) (t u i l : ℕ) → inside W t u i l ≡ true → (t ≤ W.release i l) × (W.deadline i l ≤ u)
-inside_is W t u i l e = (grind (arith, nat_tests), grind (arith, nat_tests))
-
 pub none_inside_from : (W : Workload) → Ordered W → (t u i : ℕ) → i < W.tasks → (l : ℕ) → u ≤ l → only (inside W t u) W.wcet i l ≡ 0
-none_inside_from W ord t u i p l q = cond_none (inside W t u i l) (W.wcet i l) (λ e. absurd (omega (arith, due_far W ord i l p, inside_is W t u i l e)))
+none_inside_from W ord t u i p l q = grind (arith, nat_tests, due_far W ord i l p)
 
 -- ---- a run that meets every deadline gives the jobs inside an interval their demand there
 
 module _ (W : Workload) (r : Run) (w : InWindows W r) (m : MeetsDeadlines W r) (t1 t2 : ℕ) where
   none_yet : given W.tasks t2 (inside W t1 t2) r t1 ≡ 0
   unfolding given
-  none_yet = jobs_none W.tasks t2 _ (λ i l _ _. cond_none (inside W t1 t2 i l) _ (λ p.
-      served_none r i l t1 (λ t h. omega (arith, w t i l h, inside_is W t1 t2 i l p)) t1 (omega arith)))
+  none_yet = jobs_none W.tasks t2 _ (λ i l _ _. grind (arith, nat_tests, served_none r i l (W.release i l) (λ t h. (w t i l h).1) t1))
 
   all_then : demand W t1 t2 ≤ given W.tasks t2 (inside W t1 t2) r t2
   unfolding given
-  all_then = jobs_le W.tasks t2 _ _ (λ i l a _. cond_le (inside W t1 t2 i l) _ _ (λ p.
-      omega (arith, m i l a, served_grows r i l (W.deadline i l) t2 (inside_is W t1 t2 i l p).1)))
+  all_then = jobs_le W.tasks t2 _ _ (λ i l a _. grind (arith, nat_tests, m i l a, served_grows r i l (W.deadline i l) t2))
 
   pub not_overloaded : Overloaded W t1 t2 → ⊥
   not_overloaded (lt, over) = omega (arith, none_yet, all_then, slow (given W.tasks t2 (inside W t1 t2) r) (given_slow W.tasks t2 (inside W t1 t2) r) t1 t2 (omega arith))
 
 -- ---- earliest deadline first, where all that was released before t0 is done by then
 
-released_there : (p : Bool) (a t c : ℕ) → cond (p && ltb a t) c 0 < cond (p && ltb a (suc t)) c 0 → a ≡ t
-released_there true a t c h = grind (arith, nat_tests)
-released_there false a t c h = absurd (omega arith)
-
-before_or_inside : (W : Workload) (t d i l : ℕ) →
-    only (released_before W (due_by W d) d) W.wcet i l + 0 ≤
-    only (released_before W (due_by W d) t) W.wcet i l + only (inside W t d) W.wcet i l
-before_or_inside W t d i l = grind (arith, nat_tests)
-
 module _ (W : Workload) (ord : Ordered W) (r : Run) (o : WorstCaseRun W r) (t0 d : ℕ)
     (done : (i l : ℕ) → i < W.tasks → W.release i l < t0 → W.wcet i l ≤ served r i l t0) where
   -- the work of the jobs that are due by d: served, and released
-  S : ℕ → ℕ
+  abbrev S : ℕ → ℕ
   S = given W.tasks d (due_by W d) r
 
-  R : ℕ → ℕ
+  abbrev R : ℕ → ℕ
   R = wanted W d (due_by W d) W.wcet
 
   g : Greedy S R
-  unfolding S R
   g = greedy W W.wcet r o d (due_by W d) (urgent_due W ord d)
 
   none_left : S t0 ≡ R t0
-  unfolding S R given wanted
+  unfolding given wanted
   none_left =
-      let le : R t0 ≤ S t0 = jobs_le W.tasks d _ _ (λ i l t _. counts_once_released (due_by W d i l) (W.release i l) t0 _ _ (λ _ lt. done i l t lt)) in
+      let le : R t0 ≤ S t0 = jobs_le W.tasks d _ _ (λ i l t _. grind (arith, nat_tests, done i l t)) in
       omega (arith, served_le S R g t0)
 
   rest_is_inside : (t1 : ℕ) → R d ≤ R t1 + demand W t1 d
-  unfolding R wanted
+  unfolding wanted
   rest_is_inside t1 = omega (
     arith,
     jobs_le_both W.tasks d
         (only (released_before W (due_by W d) d) W.wcet) (λ i l. 0)
         (only (released_before W (due_by W d) t1) W.wcet) (only (inside W t1 d) W.wcet)
-        (λ i l _ _. before_or_inside W t1 d i l),
+        (λ i l _ _. grind (arith, nat_tests)),
   )
 
   a_release : (t1 : ℕ) → R t1 < R (suc t1) → IsRelease W t1
-  unfolding R wanted
+  unfolding wanted
   a_release t1 h =
       let (a, b, p, q, lt) = jobs_find W.tasks d (only (released_before W (due_by W d) t1) W.wcet) (only (released_before W (due_by W d) (suc t1)) W.wcet) h in
-      (a, b, p, released_there (due_by W d a b) (W.release a b) t1 (W.wcet a b) lt)
-
-  s_slow : (t : ℕ) → S (suc t) ≤ S t + 1
-  unfolding S
-  s_slow t = given_slow W.tasks d (due_by W d) r t
+      (a, b, p, grind (arith, nat_tests))
 
   -- work that is due by d and left then began with a release, from which on the interval is overloaded
   overloaded : t0 ≤ d → S d < R d → (t1 : ℕ) × (t0 ≤ t1) × IsRelease W t1 × Overloaded W t1 d
   overloaded h left =
       let (t1, x, y, z, u) = busy S R g t0 d h none_left left in
-      (t1, x, a_release t1 (omega (arith, slow S s_slow (suc t1) d y, served_le S R g (suc t1))), (y, omega (arith, rest_is_inside t1)))
+      (t1, x, a_release t1 (omega (arith, slow S (given_slow W.tasks d (due_by W d) r) (suc t1) d y, served_le S R g (suc t1))), (y, omega (arith, rest_is_inside t1)))
 
   pub done_by_deadline : t0 ≤ d → ((t1 : ℕ) → t0 ≤ t1 → IsRelease W t1 → Overloaded W t1 d → ⊥) →
       (i l : ℕ) → i < W.tasks → W.deadline i l ≡ d → W.wcet i l ≤ served r i l d
-  unfolding S R
   done_by_deadline h none i l t e = elim (cases_lt (S d) (R d)) [
     | inl left ↦ absurd (let (t1, x, released, over) = overloaded h left in none t1 x released over)
-    | inr ge ↦ all_done W W.wcet r o d (due_by W d) d ge i l t (omega (arith, due_far W ord i l t)) (le-leb _ _ (omega arith)) (omega (arith, ord.window i l t))
+    | inr ge ↦ all_done W W.wcet r o d (due_by W d) d ge i l t (omega (arith, due_far W ord i l t)) (grind (arith, nat_tests)) (omega (arith, ord.window i l t))
   ]

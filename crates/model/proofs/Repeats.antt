@@ -1,12 +1,12 @@
 -- A run at the worst case that meets every deadline repeats with the cycle.
-use Rattle.std.proofs.Common.{◌≡◌, ℕ, zero, suc, ◌+◌, ◌-◌, ◌<◌, ◌≤◌, ◌↔◌, ap, ◌∙◌, inl, inr, add-zero, add-suc, arith}
-use Rattle.std.proofs.lemmas.Bool.{cases_lt}
+use Rattle.std.proofs.Common.{◌≡◌, ℕ, zero, suc, ◌+◌, ◌-◌, ◌<◌, ◌≤◌, ◌↔◌, ◌∙◌, inl, inr, add-zero, add-suc, arith}
+use Rattle.std.proofs.lemmas.Bool.Decides.{nat_tests}
 use Rattle.model.specs.Workloads.{Workload}
 use Rattle.model.specs.Runs.{Slot, idle, serves, Run, served, MeetsDeadlines}
 use Rattle.model.specs.Edf.{Before, Pending, WorstCaseRun}
 use Rattle.model.specs.Finishes.{Ends}
 use Rattle.model.proofs.Regularity.{Ordered, Cyclic}
-use Rattle.model.proofs.Service.{cases_slot, idle_or_job, one_job, served_here, cases_tick, served_grows}
+use Rattle.model.proofs.Service.{cases_slot, served_grows}
 use Rattle.model.proofs.Urgent.{served_early}
 use Rattle.model.proofs.Agreement.{served_same}
 
@@ -17,57 +17,33 @@ one_cycle_earlier many (serves i l) = serves i (l - many i)
 module _ (W : Workload) (H : ℕ) (many : ℕ → ℕ) (ord : Ordered W) (y : Cyclic W H many)
     (some : (i l : ℕ) → i < W.tasks → 1 ≤ W.wcet i l) (r : Run) (o : WorstCaseRun W r) (m : MeetsDeadlines W r) where
   -- the run from the second cycle on
-  next : Run
+  abbrev next : Run
   next t = one_cycle_earlier many (r (H + t))
 
   past_first : (t i l : ℕ) → r (H + t) ≡ serves i l → many i ≤ l
-  past_first t i l h = elim (cases_lt l (many i)) [
-    | inl lt ↦
-        let p = o.serves_pending (H + t) i l h in
-        absurd (omega (arith, p.unfinished, m i l p.task, served_grows r i l (W.deadline i l) (H + t) (omega (arith, y.first i l p.task lt))))
-    | inr ge ↦ ge
-  ]
+  past_first t i l h = grind (arith, o.serves_pending (H + t) i l h, m i l, y.first i l, served_grows r i l (W.deadline i l) (H + t))
 
   to_next : (t i l : ℕ) → r (H + t) ≡ serves i (many i + l) → next t ≡ serves i l
-  unfolding next
-  to_next t i l h = let e : many i + l - many i ≡ l = omega arith in ap (one_cycle_earlier many) h ∙ ap (serves i) e
+  to_next t i l h = grind arith
 
   from_next : (t i l : ℕ) → next t ≡ serves i l → r (H + t) ≡ serves i (many i + l)
-  unfolding next
   from_next t i l h = elim (cases_slot (r (H + t))) [
-    | inl e ↦ absurd (idle_or_job (next t) i l (ap (one_cycle_earlier many) e) h)
-    | inr (a, b, e) ↦
-        let both = one_job (next t) a (b - many a) i l (ap (one_cycle_earlier many) e) h in
-        let ge = past_first t a b e in
-        let same : b ≡ many a + l = omega arith in
-        e ∙ (ap (serves a) same ∙ ap (λ (k : ℕ). serves k (many k + l)) both.0)
+    | inl e ↦ cc
+    | inr (a, b, e) ↦ grind (arith, past_first t a b e)
   ]
 
   idle_from_next : (t : ℕ) → next t ≡ idle → r (H + t) ≡ idle
-  unfolding next
-  idle_from_next t h = elim (cases_slot (r (H + t))) [
-    | inl e ↦ e
-    | inr (a, b, e) ↦ absurd (idle_or_job (next t) a (b - many a) h (ap (one_cycle_earlier many) e))
-  ]
+  idle_from_next t h = grind arith
 
   same_served : (i l : ℕ) → i < W.tasks → (t : ℕ) → served r i (many i + l) (H + t) ≡ served next i l t
   same_served i l p zero = rw add-zero (served_early W W.wcet r o i (many i + l) H (omega (arith, y.again_release i l p)))
-  same_served i l p (suc t) = rw add-suc (elim (cases_tick r i (many i + l) (H + t)) [
-    | inl here ↦ omega (arith, served_here r i (many i + l) (H + t) here, served_here next i l t (to_next t i l here), same_served i l p t)
-    | inr stays ↦ elim (cases_tick next i l t) [
-      | inl here ↦ omega (arith, served_here r i (many i + l) (H + t) (from_next t i l here))
-      | inr too ↦ omega (arith, same_served i l p t)
-    ]
-  ])
+  same_served i l p (suc t) = rw add-suc (grind (arith, nat_tests, to_next t i l, from_next t i l, same_served i l p t))
 
   pending_same : (t i l : ℕ) → i < W.tasks → Pending W W.wcet r (H + t) i (many i + l) ↔ Pending W W.wcet next t i l
-  pending_same t i l p =
-      let same = same_served i l p t in
-      ((λ q. omega (arith, q, same, y.again_release i l p, y.again_wcet i l p)), (λ q. omega (arith, q, same, y.again_release i l p, y.again_wcet i l p)))
+  pending_same t i l p = omega (arith, same_served i l p t, y.again_release i l p, y.again_wcet i l p)
 
   before_next : (i l a b : ℕ) → i < W.tasks → a < W.tasks → Before W i (many i + l) a (many a + b) → Before W i l a b
-  before_next i l a b p q (inl h) = inl (omega (arith, y.again_deadline i l p, y.again_deadline a b q))
-  before_next i l a b p q (inr h) = inr (omega (arith, y.again_deadline i l p, y.again_deadline a b q), h.1)
+  before_next i l a b p q h = grind (arith, y.again_deadline i l p, y.again_deadline a b q)
 
   next_obeys : WorstCaseRun W next
   next_obeys = record {
@@ -84,13 +60,7 @@ module _ (W : Workload) (H : ℕ) (many : ℕ → ℕ) (ord : Ordered W) (y : Cy
 
   -- before the second cycle the job of it has had nothing
   not_yet_again : (i l u t : ℕ) → i < W.tasks → Ends W.wcet r i l t → u < H + t → served r i (many i + l) u < W.wcet i (many i + l)
-  not_yet_again i l u t p x lt = elim (cases_lt u H) [
-    | inl early ↦ omega (arith, some i (many i + l) p, served_early W W.wcet r o i (many i + l) u (omega (arith, y.again_release i l p)))
-    | inr late ↦
-        let e : H + (u - H) ≡ u = omega arith in
-        let same : served r i (many i + l) u ≡ served r i l (u - H) = rw e at (served_again i l p (u - H)) in
-        omega (arith, x.no_sooner (u - H) (omega arith), y.again_wcet i l p)
-  ]
+  not_yet_again i l u t p x lt = grind (arith, some i (many i + l) p, served_early W W.wcet r o i (many i + l) u, y.again_release i l p, served_again i l p (u - H), x.no_sooner (u - H), y.again_wcet i l p)
 
   pub ends_again : (i l t : ℕ) → i < W.tasks → Ends W.wcet r i l t ↔ Ends W.wcet r i (many i + l) (H + t)
   ends_again i l t p = (

@@ -1,27 +1,15 @@
 -- Earliest deadline first serves a set of most urgent jobs in every tick in which one of them has work left.
-use Rattle.std.proofs.Common.{◌≡◌, ℕ, zero, suc, ◌<◌, ◌≤◌, Bool, true, false, cond, ◌&&◌, ltb, ◌⊎◌, refl, inl, inr, arith}
-use Rattle.std.proofs.lemmas.Bool.{cases_lt, cases_Bool, both_ways}
+use Rattle.std.proofs.Common.{◌≡◌, ℕ, zero, suc, ◌<◌, ◌≤◌, Bool, true, ◌&&◌, ltb, ◌⊎◌, inl, inr, arith}
+use Rattle.std.proofs.lemmas.Bool.{cases_Bool, both_ways}
 use Rattle.std.proofs.lemmas.Bool.Decides.{nat_tests}
 use Rattle.model.specs.Workloads.{Workload}
 use Rattle.model.specs.Runs.{serves, Run, served}
 use Rattle.model.specs.Edf.{Execution, Pending, Before, ObeysEdf}
 use Rattle.model.proofs.Backlog.{Greedy}
-use Rattle.model.proofs.JobSums.{sum_jobs, only, jobs_le, jobs_lt, jobs_none, jobs_same}
-use Rattle.model.proofs.Service.{cases_slot, served_here, cases_tick, served_grows, served_none, cond_le, cond_none, given, given_grows, given_slow}
+use Rattle.model.proofs.JobSums.{sum_jobs, only, jobs_le, jobs_lt, jobs_none}
+use Rattle.model.proofs.Service.{cases_slot, served_here, served_none, given, given_grows, given_slow}
 
--- ---- work that counts once its job is released, at a
-
-pub counts_once_released : (p : Bool) (a t x y : ℕ) → (p ≡ true → a < t → x ≤ y) → cond (p && ltb a t) x 0 ≤ cond p y 0
-counts_once_released true a t x y h = let f = h refl in grind (arith, nat_tests)
-counts_once_released false a t x y h = omega arith
-
-none_before_release : (p : Bool) (a t x y : ℕ) → x ≤ y → (t ≤ a → x ≡ 0) → cond p x 0 ≤ cond (p && ltb a t) y 0
-none_before_release true a t x y h z = grind (arith, nat_tests)
-none_before_release false a t x y h z = omega arith
-
-none_at_first : (p : Bool) (a x : ℕ) → cond (p && ltb a 0) x 0 ≡ 0
-none_at_first true a x = grind (arith, nat_tests)
-none_at_first false a x = refl
+-- ---- work that counts once its job is released
 
 -- the jobs of P that are released before t
 abbrev pub released_before : Workload → (ℕ → ℕ → Bool) → ℕ → ℕ → ℕ → Bool
@@ -41,48 +29,38 @@ pub record Urgent (W : Workload) (m : ℕ) (P : ℕ → ℕ → Bool) : Type 0 w
 module _ (W : Workload) (e : Execution) (r : Run) (o : ObeysEdf W e r) where
   pub served_most : (i l t : ℕ) → served r i l t ≤ e i l
   served_most i l zero = omega arith
-  served_most i l (suc t) = elim (cases_tick r i l t) [
-    | inl here ↦ omega (arith, served_here r i l t here, (o.serves_pending t i l here).unfinished)
-    | inr stays ↦ omega (arith, stays, served_most i l t)
-  ]
+  served_most i l (suc t) = grind (arith, nat_tests, o.serves_pending t i l, served_most i l t)
 
   pub served_early : (i l t : ℕ) → t ≤ W.release i l → served r i l t ≡ 0
   served_early i l t h = served_none r i l (W.release i l) (λ u g. (o.serves_pending u i l g).released) t h
 
   module _ (m : ℕ) (P : ℕ → ℕ → Bool) where
     given_most : (t i l : ℕ) → only P (λ i l. served r i l t) i l ≤ only (released_before W P t) e i l
-    given_most t i l = none_before_release (P i l) (W.release i l) t _ _ (served_most i l t) (served_early i l t)
+    given_most t i l = grind (arith, nat_tests, served_most i l t, served_early i l t)
 
     given_wanted : (t : ℕ) → given W.tasks m P r t ≤ wanted W m P e t
     unfolding given wanted
-    given_wanted t = jobs_le W.tasks m _ _ (λ i l _ _. given_most t i l)
+    given_wanted t = grind (arith, jobs_le, given_most)
 
     -- all that is wanted is given: each job of P that is released is done
     pub all_done : (t : ℕ) → wanted W m P e t ≤ given W.tasks m P r t →
         (i l : ℕ) → i < W.tasks → l < m → P i l ≡ true → W.release i l < t → e i l ≤ served r i l t
     unfolding given wanted
     all_done t h i l task low p early =
-        let here = jobs_same W.tasks m (only P (λ i l. served r i l t)) (only (released_before W P t) e) (λ a b _ _. given_most t a b) h i l task low in
-        grind (arith, nat_tests)
+        let less = jobs_lt W.tasks m (only P (λ i l. served r i l t)) (only (released_before W P t) e) i l (λ a b _ _. given_most t a b) task low in
+        grind (arith, nat_tests, less)
 
     -- no job of P is pending: all that is wanted after the tick is given before it
     none_pending : (t : ℕ) → ((a b : ℕ) → P a b ≡ true → Pending W e r t a b → ⊥) → wanted W m P e (suc t) ≤ given W.tasks m P r t
     unfolding given wanted
-    none_pending t none = jobs_le W.tasks m _ _ (λ i l a _. counts_once_released (P i l) (W.release i l) (suc t) _ _ (λ p lt.
-        elim (cases_lt (served r i l t) (e i l)) [
-          | inl un ↦ absurd (none i l p (record { task = a; released = omega arith; unfinished = un }))
-          | inr ge ↦ ge
-        ]))
+    none_pending t none = jobs_le W.tasks m _ _ (λ i l a _. grind (arith, nat_tests, none i l))
 
     module _ (u : Urgent W m P) where
       one_served : (t a b : ℕ) → r t ≡ serves a b → P a b ≡ true → given W.tasks m P r t < given W.tasks m P r (suc t)
       unfolding given
       one_served t a b h p =
-          let q = o.serves_pending t a b h in
-          jobs_lt W.tasks m (only P (λ i l. served r i l t)) (only P (λ i l. served r i l (suc t))) a b
-          (λ i l _ _. cond_le (P i l) _ _ (λ _. served_grows r i l t (suc t) (omega arith)))
-          q.task (u.low a b q.task p)
-          (rw p (omega (arith, served_here r a b t h)))
+          let task = (o.serves_pending t a b h).task in
+          jobs_lt W.tasks m _ _ a b (λ i l _ _. grind arith) task (u.low a b task p) (rw p (omega (arith, served_here r a b t h)))
 
       cases_urgent : (t : ℕ) → (wanted W m P e (suc t) ≤ given W.tasks m P r t) ⊎ (given W.tasks m P r t < given W.tasks m P r (suc t))
       cases_urgent t = elim (cases_slot (r t)) [
@@ -96,10 +74,7 @@ module _ (W : Workload) (e : Execution) (r : Run) (o : ObeysEdf W e r) where
       pub greedy : Greedy (given W.tasks m P r) (wanted W m P e)
       unfolding given wanted
       greedy = record {
-        none_served = jobs_none W.tasks m _ (λ i l _ _. cond_none (P i l) _ (λ _. refl));
-        none_released = jobs_none W.tasks m _ (λ i l _ _. none_at_first (P i l) (W.release i l) (e i l));
-        step = λ t. elim (cases_urgent t) [
-          | inl h ↦ omega (arith, h, given_wanted (suc t), given_grows W.tasks m P r t)
-          | inr h ↦ omega (arith, h, given_wanted (suc t), given_slow W.tasks m P r t)
-        ];
+        none_served = jobs_none W.tasks m _ (λ i l _ _. grind arith);
+        none_released = jobs_none W.tasks m _ (λ i l _ _. grind (arith, nat_tests));
+        step = λ t. omega (arith, cases_urgent t, given_wanted (suc t), given_grows W.tasks m P r t, given_slow W.tasks m P r t);
       }
