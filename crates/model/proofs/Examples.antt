@@ -1,6 +1,6 @@
 -- The examples: each fact is a test that computes to true.
 use Rattle.std.proofs.Common.{◌≡◌, true, not, List, ◌++◌, replicate, refl, arith}
-use Rattle.std.proofs.lemmas.Bool.{leb-true, ltb-true, not-true}
+use Rattle.std.proofs.lemmas.Bool.{not-true}
 use Rattle.std.proofs.lemmas.Bool.Decides.{not_from_Decides}
 use Rattle.model.specs.Workloads.{workload, Sound}
 use Rattle.model.specs.Runs.{Slot, idle, serves}
@@ -70,10 +70,10 @@ three_fill = record {
 
 overload : Overload (workload (three 6)) 20 2 15
 overload = record {
-  released = (0, 0, ltb-true 0 3 refl, refl);
-  due = (1, 0, ltb-true 1 3 refl, refl);
-  in_cycle = leb-true 15 20 refl;
-  overloaded = (decides_overloaded (workload (three 6)) 2 15).0 refl;
+  released = (0, 0, omega arith, refl);
+  due = (1, 0, omega arith, refl);
+  in_cycle = omega arith;
+  overloaded = omega arith;
 }
 
 -- the third task takes 6 ticks
@@ -88,7 +88,7 @@ three_overload = record {
   overload = overload;
   from_start = refl;
   none_from_start = λ t h. not_from_Decides _ (decides_overloaded (workload (three 6)) 0 t)
-      (not-true _ (passes_below 21 (λ u. not (overloaded? (workload (three 6)) 0 u)) refl t (omega arith)));
+      (not-true _ (passes_below 21 (λ u. not (overloaded? (workload (three 6)) 0 u)) t (omega arith) refl));
   infeasible = overload_is_infeasible (workload (three 6)) 2 15 overload.overloaded;
   too_long = λ r o. ends_as_in_table (workload (three 5)) (ordered 20 (three 5) fill_sound) (workload (three 6)).wcet late_table refl r o 1 0 16 refl;
 }

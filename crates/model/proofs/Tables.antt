@@ -1,14 +1,13 @@
 -- Tables of ticks that a test shows to obey earliest deadline first: every run serves each job, and ends it, as the table does.
-use Rattle.std.proofs.Common.{◌≡◌, ℕ, suc, ◌+◌, ◌≤◌, Bool, true, not, ◌&&◌, ◌||◌, ltb, leb, List, length, get_or, Decides, arith}
-use Rattle.std.proofs.lemmas.Bool.{and_parts, not-true, leb-true, ltb-true}
-use Rattle.std.proofs.lemmas.Bool.Decides.{nat_tests, not_from_Decides}
+use Rattle.std.proofs.Common.{◌≡◌, ℕ, suc, ◌+◌, ◌≤◌, Bool, true, not, ◌&&◌, ◌||◌, ltb, leb, List, length, get_or, arith}
+use Rattle.std.proofs.lemmas.Bool.Decides.{nat_tests}
 use Rattle.model.specs.Jobs.{Row, activation}
 use Rattle.model.specs.Workloads.{Workload, row_at, workload, Sound}
 use Rattle.model.specs.Runs.{Slot, idle, serves, Run, served}
-use Rattle.model.specs.Edf.{Execution, Pending, Before, ObeysEdf}
+use Rattle.model.specs.Edf.{Execution, Pending, ObeysEdf}
 use Rattle.model.specs.Finishes.{Ends, Told}
 use Rattle.model.proofs.Agreement.{ObeysAt, obeys_at, served_alike}
-use Rattle.model.proofs.Priorities.{at_or_before, before_passes}
+use Rattle.model.proofs.Priorities.{at_or_before}
 use Rattle.model.proofs.Bounded.{all_below, passes_below, all_pairs, passes_pairs}
 use Rattle.model.proofs.Regularity.{Ordered}
 use Rattle.model.proofs.Workloads.{ordered}
@@ -21,9 +20,6 @@ run_of table t = get_or table t idle
 
 abbrev pending? : Workload → Execution → Run → ℕ → ℕ → ℕ → Bool
 pending? W e r t i l = ltb i W.tasks && leb (W.release i l) t && ltb (served r i l t) (e i l)
-
-decides_pending : (W : Workload) (e : Execution) (r : Run) (t i l : ℕ) → Decides (pending? W e r t i l) (Pending W e r t i l)
-decides_pending W e r t i l = (λ p. grind (arith, nat_tests), λ p. grind (arith, nat_tests))
 
 -- job (a, b) is not pending, or goes behind job (i, l)
 abbrev behind? : Workload → Execution → Run → ℕ → ℕ → ℕ → ℕ → ℕ → Bool
@@ -46,40 +42,23 @@ ends? e table i l t =
 
 module _ (W : Workload) (o : Ordered W) (e : Execution) where
   -- job b is released at tick b or later, so that those up to t are all that can be pending at t
-  passes_pending : (r : Run) (t : ℕ) (p : ℕ → ℕ → Bool) → all_pairs W.tasks (λ _. suc t) p ≡ true →
-      (a b : ℕ) → Pending W e r t a b → p a b ≡ true
-  passes_pending r t p c a b h = passes_pairs W.tasks (λ _. suc t) p c a b h.task (omega (arith, h, o.far a b h.task))
-
-  none_from_test : (r : Run) (t : ℕ) → obeys_at? W e r t idle ≡ true → (a b : ℕ) → Pending W e r t a b → ⊥
-  none_from_test r t c a b h =
-      let passed = passes_pending r t (λ i l. not (pending? W e r t i l)) c a b h in
-      not_from_Decides _ (decides_pending W e r t a b) (not-true _ passed) h
-
-  first_from_test : (r : Run) (t i l : ℕ) → all_pairs W.tasks (λ _. suc t) (behind? W e r t i l) ≡ true →
-      (a b : ℕ) → Pending W e r t a b → Before W i l a b
-  first_from_test r t i l c a b h =
-      let passed = passes_pending r t (behind? W e r t i l) c a b h in
-      before_passes W a b i l (rw ((decides_pending W e r t a b).1 h) at passed)
+  passes_pending : (r : Run) (t : ℕ) (p : ℕ → ℕ → Bool) (a b : ℕ) → Pending W e r t a b → all_pairs W.tasks (λ _. suc t) p ≡ true → p a b ≡ true
+  passes_pending r t p a b h = passes_pairs W.tasks (λ _. suc t) p a b h.task (omega (arith, h, o.far a b h.task))
 
   obeys_from_test : (r : Run) (t : ℕ) (x : Slot) → obeys_at? W e r t x ≡ true → ObeysAt W e r t x
-  obeys_from_test r t idle c = none_from_test r t c
-  obeys_from_test r t (serves i l) c =
-      let parts = and_parts (pending? W e r t i l) _ c in
-      ((decides_pending W e r t i l).0 parts.0, first_from_test r t i l parts.1)
+  obeys_from_test r t idle c = λ a b h. grind (arith, nat_tests, passes_pending r t (λ i l. not (pending? W e r t i l)) a b h)
+  obeys_from_test r t (serves i l) c = (grind (arith, nat_tests), λ a b h. grind (arith, nat_tests, passes_pending r t (behind? W e r t i l) a b h))
 
   module _ (table : List Slot) (c : obeys? W e table ≡ true) (r : Run) (edf : ObeysEdf W e r) where
     pub served_as_in_table : (t : ℕ) → t ≤ length table → (i l : ℕ) → served r i l t ≡ served (run_of table) i l t
     served_as_in_table = served_alike W o e r (run_of table) (length table) (λ t _. obeys_at W e r edf t)
-        (λ t h. obeys_from_test (run_of table) t (run_of table t) (passes_below (length table) _ c t h))
+        (λ t h. obeys_from_test (run_of table) t (run_of table t) (passes_below (length table) _ t h c))
 
     pub ends_as_in_table : (i l t : ℕ) → ends? e table i l t ≡ true → Ends e r i l t
     ends_as_in_table i l t d =
-        let parts = and_parts (leb t (length table) && leb (e i l) (served (run_of table) i l t)) _ d in
-        let upto = and_parts (leb t (length table)) _ parts.0 in
-        let short : t ≤ length table = leb-true _ _ upto.0 in
         record {
-          done = rw (served_as_in_table t short i l) (leb-true _ _ upto.1);
-          no_sooner = λ u h. rw (served_as_in_table u (omega arith) i l) (ltb-true _ _ (passes_below t _ parts.1 u h));
+          done = grind (arith, nat_tests, served_as_in_table t);
+          no_sooner = λ u h. grind (arith, nat_tests, served_as_in_table u, passes_below t (λ u. ltb (served (run_of table) i l u) (e i l)) u h);
         }
 
 pub told_from_table : (H : ℕ) (rows : List Row) → Sound H rows →

@@ -1,7 +1,6 @@
 -- Tests for rows that are written out in numbers: that they are sound, and that no interval of the first cycle is overloaded.
-use Rattle.std.proofs.Common.{◌≡◌, ℕ, ◌+◌, ◌-◌, ◌*◌, ◌<◌, Bool, true, not, ◌&&◌, ◌||◌, eqb, ltb, leb, List, length, get_or, Decides, sym, subst₂, mod-lt, arith}
-use Rattle.std.proofs.lemmas.Bool.{and_parts, not-true, leb-true}
-use Rattle.std.proofs.lemmas.Bool.Decides.{nat_tests, not_from_Decides, Decides-ltb, Decides-and}
+use Rattle.std.proofs.Common.{◌≡◌, ℕ, ◌+◌, ◌-◌, ◌*◌, ◌<◌, Bool, true, not, ◌&&◌, ◌||◌, eqb, ltb, leb, List, length, get_or, Decides, mod-lt, arith}
+use Rattle.std.proofs.lemmas.Bool.Decides.{nat_tests}
 use Rattle.model.specs.Jobs.{Row}
 use Rattle.model.specs.Workloads.{Workload, row_at, workload, SoundRow, Sound}
 use Rattle.model.specs.Demand.{demand, Overloaded, NoOverload}
@@ -25,15 +24,11 @@ abbrev sound_row? : ℕ → Row → Bool
 sound_row? H r = figures? r && cycle? H r && all_below (length r.offsets) (in_time? r)
 
 sound_row_from_test : (H : ℕ) (r : Row) → sound_row? H r ≡ true → SoundRow H r
-sound_row_from_test H r e =
-    let parts = and_parts (figures? r && cycle? H r) _ e in
-    let fits : figures? r && cycle? H r ≡ true = parts.0 in
-    let some : 0 < length r.offsets = grind (arith, nat_tests) in
-    record {
-      figures = grind (arith, nat_tests);
-      divides = grind (arith, nat_tests);
-      in_time = λ l. leb-true _ _ (passes_below (length r.offsets) (in_time? r) parts.1 _ (mod-lt l some));
-    }
+sound_row_from_test H r e = record {
+  figures = grind (arith, nat_tests);
+  divides = grind (arith, nat_tests);
+  in_time = λ l. grind (arith, nat_tests, passes_below (length r.offsets) (in_time? r), mod-lt l);
+}
 
 -- two places are one, or their tasks have different numbers
 abbrev apart? : List Row → ℕ → ℕ → Bool
@@ -44,15 +39,11 @@ sound? H rows =
     leb 1 H && all_below (length rows) (λ i. sound_row? H (row_at rows i)) && all_pairs (length rows) (λ _. length rows) (apart? rows)
 
 pub sound_from_test : (H : ℕ) (rows : List Row) → sound? H rows ≡ true → Sound H rows
-sound_from_test H rows e =
-    let parts = and_parts (leb 1 H && all_below (length rows) (λ i. sound_row? H (row_at rows i))) _ e in
-    let rest = and_parts (leb 1 H) _ parts.0 in
-    record {
-      some_cycle = leb-true 1 H rest.0;
-      each = λ i t. sound_row_from_test H (row_at rows i) (passes_below (length rows) _ rest.1 i t);
-      numbers_differ = λ i a t u same.
-          let apart = passes_pairs (length rows) (λ _. length rows) (apart? rows) parts.1 i a t u in grind (arith, nat_tests);
-    }
+sound_from_test H rows e = record {
+  some_cycle = grind (arith, nat_tests);
+  each = λ i t. grind (arith, nat_tests, sound_row_from_test H (row_at rows i), passes_below (length rows) (λ a. sound_row? H (row_at rows a)) i t);
+  numbers_differ = λ i a t u same. grind (arith, nat_tests, passes_pairs (length rows) (λ _. length rows) (apart? rows) i a t u);
+}
 
 -- ---- no overload
 
@@ -60,7 +51,7 @@ abbrev pub overloaded? : Workload → ℕ → ℕ → Bool
 overloaded? W t1 t2 = ltb t1 t2 && ltb (t2 - t1) (demand W t1 t2)
 
 pub decides_overloaded : (W : Workload) (t1 t2 : ℕ) → Decides (overloaded? W t1 t2) (Overloaded W t1 t2)
-decides_overloaded W t1 t2 = Decides-and _ _ (Decides-ltb t1 t2) (Decides-ltb (t2 - t1) (demand W t1 t2))
+decides_overloaded W t1 t2 = grind (arith, nat_tests)
 
 -- from t1 to the deadline of each job of the first cycle
 abbrev none_from? : List Row → ℕ → Bool
@@ -77,8 +68,7 @@ module _ (H : ℕ) (rows : List Row) (s : Sound H rows) where
   no_overload_from_test e t1 t2 o =
       let (i, l, t, from) = o.released in
       let (a, b, u, to) = o.due in
-      let none = passes_pairs (length rows) (many rows) _ e i l t (in_first_cycle i l t (omega (arith, o))) in
+      let none = passes_pairs (length rows) (many rows) _ i l t (in_first_cycle i l t (omega (arith, o))) e in
       let late = in_first_cycle a b u (omega (arith, o, (ordered H rows s).window a b u)) in
-      not_from_Decides _ (decides_overloaded (workload rows) _ _)
-      (not-true _ (passes_pairs (length rows) (many rows) _ none a b u late))
-      (subst₂ (Overloaded (workload rows)) (sym from) (sym to) o.overloaded)
+      let fine = passes_pairs (length rows) (many rows) _ a b u late none in
+      grind (arith, nat_tests)
