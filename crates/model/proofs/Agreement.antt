@@ -1,38 +1,28 @@
 -- Runs that obey earliest deadline first, with the same execution, are alike.
-use Rattle.std.proofs.Common.{◌≡◌, ℕ, zero, suc, ◌<◌, ◌≤◌, sym, refl, arith}
+use Rattle.std.proofs.Common.{◌≡◌, ℕ, zero, suc, ◌<◌, ◌≤◌, refl, inl, inr, arith}
 use Rattle.model.specs.Workloads.{Workload}
 use Rattle.model.specs.Runs.{Slot, idle, serves, Run, served}
 use Rattle.model.specs.Edf.{Execution, Pending, Before, ObeysEdf}
 use Rattle.model.proofs.Regularity.{Ordered}
 use Rattle.model.proofs.Priorities.{before_both}
+use Rattle.model.proofs.Service.{cases_slot}
 
 -- tick t is rightly given to nobody, or to the job
 abbrev pub ObeysAt : Workload → Execution → Run → ℕ → Slot → Type 0
 ObeysAt W e r t idle = (a b : ℕ) → Pending W e r t a b → ⊥
 ObeysAt W e r t (serves i l) = Pending W e r t i l × ((a b : ℕ) → Pending W e r t a b → Before W i l a b)
 
-obeys_slot : (W : Workload) (e : Execution) (r : Run) → ObeysEdf W e r → (t : ℕ) (x : Slot) → r t ≡ x → ObeysAt W e r t x
-obeys_slot W e r o t idle q = o.idles t q
-obeys_slot W e r o t (serves i l) q = (o.serves_pending t i l q, o.serves_first t i l q)
-
 pub obeys_at : (W : Workload) (e : Execution) (r : Run) → ObeysEdf W e r → (t : ℕ) → ObeysAt W e r t (r t)
-obeys_at W e r o t = obeys_slot W e r o t (r t) refl
+obeys_at W e r o t = elim (cases_slot (r t)) [
+  | inl q ↦ rw q (o.idles t q)
+  | inr (i, l, q) ↦ rw q (o.serves_pending t i l q, o.serves_first t i l q)
+]
 
 module _ (W : Workload) (ord : Ordered W) (e : Execution) where
-  same_pending : (r s : Run) (t i l : ℕ) → served r i l t ≡ served s i l t → Pending W e r t i l → Pending W e s t i l
-  same_pending r s t i l same p = record { task = p.task; released = p.released; unfinished = omega (arith, p.unfinished) }
-
   -- where both have served each job alike so far
   module _ (r s : Run) (t : ℕ) (same : (i l : ℕ) → served r i l t ≡ served s i l t) where
     one_slot : (x y : Slot) → ObeysAt W e r t x → ObeysAt W e s t y → x ≡ y
-    one_slot idle idle p q = refl
-    one_slot idle (serves a b) p q = absurd (p a b (same_pending s r t a b (sym (same a b)) q.0))
-    one_slot (serves i l) idle p q = absurd (q i l (same_pending r s t i l (same i l) p.0))
-    one_slot (serves i l) (serves a b) p q =
-        let first = p.1 a b (same_pending s r t a b (sym (same a b)) q.0) in
-        let too = q.1 i l (same_pending r s t i l (same i l) p.0) in
-        let (task, job) = before_both W ord i l a b p.0.task q.0.task first too in
-        cc
+    one_slot x y p q = grind (arith, before_both W ord)
 
   -- runs that obey at each tick before n
   pub served_alike : (r s : Run) (n : ℕ) →
@@ -42,7 +32,7 @@ module _ (W : Workload) (ord : Ordered W) (e : Execution) where
   served_alike r s n p q (suc t) h i l =
       let same = served_alike r s n p q t (omega arith) in
       let slot : r t ≡ s t = one_slot r s t same (r t) (s t) (p t h) (q t h) in
-      rw (same i l, slot)
+      cc (same i l)
 
   module _ (r s : Run) (o : ObeysEdf W e r) (p : ObeysEdf W e s) where
     pub served_same : (i l t : ℕ) → served r i l t ≡ served s i l t

@@ -1,6 +1,5 @@
 -- The first job of a set, in the order of earliest deadline first, or that the set has none.
-use Rattle.std.proofs.Common.{◌≡◌, ℕ, zero, suc, ◌<◌, ◌⊎◌, subst, subst₂, inl, inr, arith}
-use Rattle.std.proofs.lemmas.Bool.{cases_eq}
+use Rattle.std.proofs.Common.{◌≡◌, ℕ, zero, suc, ◌<◌, ◌⊎◌, inl, inr, arith}
 use Rattle.model.specs.Workloads.{Workload}
 use Rattle.model.specs.Runs.{Slot, idle, serves}
 use Rattle.model.specs.Edf.{Before}
@@ -17,24 +16,21 @@ module _ (W : Workload) where
   Choice Q = ((y : Job) → Q y → ⊥) ⊎ ((x : Job) × Q x × ((y : Job) → Q y → GoesBefore x y))
 
   choose_either : (P Q : Job → Type 0) → Choice P → Choice Q → Choice (λ x. P x ⊎ Q x)
-  choose_either P Q (inl n) (inl m) = inl (λ y h. elim h [ inl p ↦ n y p | inr q ↦ m y q ])
-  choose_either P Q (inl n) (inr (x, q, f)) = inr (x, inr q, λ y h. elim h [ inl p ↦ absurd (n y p) | inr q ↦ f y q ])
-  choose_either P Q (inr (x, p, f)) (inl m) = inr (x, inl p, λ y h. elim h [ inl p ↦ f y p | inr q ↦ absurd (m y q) ])
+  choose_either P Q (inl n) (inl m) = grind arith
+  choose_either P Q (inl n) (inr (x, q, f)) = inr (x, inr q, grind arith)
+  choose_either P Q (inr (x, p, f)) (inl m) = inr (x, inl p, grind arith)
   choose_either P Q (inr (x, p, f)) (inr (z, q, g)) = elim (before_either W x.0 x.1 z.0 z.1) [
     | inl a ↦ inr (x, inl p, λ y h. elim h [ inl p ↦ f y p | inr q ↦ before_trans W _ _ z.0 z.1 _ _ a (g y q) ])
     | inr a ↦ inr (z, inr q, λ y h. elim h [ inl p ↦ before_trans W _ _ x.0 x.1 _ _ a (f y p) | inr q ↦ g y q ])
   ]
 
   choose_same : (P Q : Job → Type 0) → ((x : Job) → P x → Q x) → ((x : Job) → Q x → P x) → Choice P → Choice Q
-  choose_same P Q to from (inl n) = inl (λ y q. n y (from y q))
-  choose_same P Q to from (inr (x, p, f)) = inr (x, to x p, λ y q. f y (from y q))
+  choose_same P Q to from c = grind arith
 
   pub choose_below : (Q : ℕ → Job → Type 0) → ((k : ℕ) → Choice (Q k)) → (n : ℕ) → Choice (λ x. (k : ℕ) × (k < n) × Q k x)
   choose_below Q h zero = inl (λ y q. omega arith)
   choose_below Q h (suc n) = choose_same (λ x. ((k : ℕ) × (k < n) × Q k x) ⊎ Q n x) (λ x. (k : ℕ) × (k < suc n) × Q k x)
-      (λ x p. elim p [ inl q ↦ (q.0, omega arith, q.2) | inr q ↦ (n, omega arith, q) ])
-      (λ x p. elim (cases_eq p.0 n) [ inl e ↦ inr (subst (λ (k : ℕ). Q k x) e p.2) | inr d ↦ inl (p.0, omega arith, p.2) ])
-      (choose_either _ _ (choose_below Q h n) (h n))
+      (λ x p. grind arith) (λ x p. grind arith) (choose_either _ _ (choose_below Q h n) (h n))
 
   pub slot_of : (Q : Job → Type 0) → Choice Q → Slot
   slot_of Q (inl n) = idle
@@ -42,13 +38,8 @@ module _ (W : Workload) where
 
   pub slot_idle : (Q : Job → Type 0) (c : Choice Q) → slot_of Q c ≡ idle → (y : Job) → Q y → ⊥
   unfolding slot_of
-  slot_idle Q (inl n) e = n
-  slot_idle Q (inr (x, p, f)) e = absurd (let z : ◌≡◌ {A = ℕ} 0 1 = cc in omega arith)
+  slot_idle Q c e y q = grind arith
 
   pub slot_serves : (Q : Job → Type 0) (c : Choice Q) (i l : ℕ) → slot_of Q c ≡ serves i l → Q (i, l) × ((y : Job) → Q y → GoesBefore (i, l) y)
   unfolding slot_of
-  slot_serves Q (inl n) i l e = absurd (let z : ◌≡◌ {A = ℕ} 0 1 = cc in omega arith)
-  slot_serves Q (inr (x, p, f)) i l e =
-      let a : x.0 ≡ i = cc in
-      let b : x.1 ≡ l = cc in
-      subst₂ (λ (i l : ℕ). Q (i, l) × ((y : Job) → Q y → GoesBefore (i, l) y)) a b (p, f)
+  slot_serves Q c i l e = grind arith

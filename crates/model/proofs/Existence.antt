@@ -1,11 +1,10 @@
 -- There is a run by earliest deadline first: at each tick the first of the pending jobs, of which there are finitely many.
-use Rattle.std.proofs.Common.{◌≡◌, ℕ, zero, suc, ◌+◌, ◌<◌, ◌≤◌, cond, sym, refl, subst₂, inl, inr, arith}
+use Rattle.std.proofs.Common.{◌≡◌, ℕ, zero, suc, ◌+◌, ◌<◌, ◌≤◌, cond, ◌↔◌, refl, inl, inr, arith}
 use Rattle.std.proofs.lemmas.Bool.{cases_lt}
 use Rattle.model.specs.Workloads.{Workload}
 use Rattle.model.specs.Runs.{Slot, is_job, Run, served}
-use Rattle.model.specs.Edf.{Execution, Pending, Before, ObeysEdf}
+use Rattle.model.specs.Edf.{Execution, Pending, ObeysEdf}
 use Rattle.model.proofs.Regularity.{Ordered}
-use Rattle.model.proofs.Priorities.{before_itself}
 use Rattle.model.proofs.Choosing.{Job, Choice, choose_below, slot_of, slot_idle, slot_serves}
 
 -- where v says how many ticks each job has had, x is the job (i, l), and it is released at t and not done
@@ -20,7 +19,7 @@ module _ (W : Workload) (e : Execution) where
   choose_at v t i l = elim (cases_lt t (W.release i l)) [
     | inl early ↦ inl (λ y q. omega arith)
     | inr now ↦ elim (cases_lt (v i l) (e i l)) [
-      | inl un ↦ inr ((i, l), (refl, refl, now, un), λ y q. subst₂ (λ (a b : ℕ). Before W i l a b) (sym q.0) (sym q.1) (before_itself W i l))
+      | inl un ↦ inr ((i, l), (refl, refl, now, un), λ y q. grind arith)
       | inr done ↦ inl (λ y q. omega arith)
     ]
   ]
@@ -45,16 +44,13 @@ module _ (W : Workload) (e : Execution) where
   served_is_had i l (suc t) = omega (arith, served_is_had i l t)
 
   module _ (ord : Ordered W) where
-    ready : (t i l : ℕ) → Pending W e edf t i l → Ready W e (had t) t (i, l)
-    ready t i l p = (i, p.task, (l, omega (arith, ord.far i l p.task, p.released), (refl, refl, p.released, omega (arith, p.unfinished, served_is_had i l t))))
-
-    pending : (t i l : ℕ) → Ready W e (had t) t (i, l) → Pending W e edf t i l
-    pending t i l (a, x, (b, y, (p, q, u, v))) = subst₂ (λ (i l : ℕ). Pending W e edf t i l) (sym p) (sym q) (record { task = x; released = u; unfinished = omega (arith, served_is_had a b t) })
+    ready_pending : (t i l : ℕ) → Ready W e (had t) t (i, l) ↔ Pending W e edf t i l
+    ready_pending t i l = grind (arith, ord.far i l, served_is_had i l t)
 
     pub edf_obeys : ObeysEdf W e edf
     unfolding edf pick
     edf_obeys = record {
-      serves_pending = λ t i l h. pending t i l (slot_serves W (Ready W e (had t) t) (choose (had t) t) i l h).0;
-      serves_first = λ t i l h a b p. (slot_serves W (Ready W e (had t) t) (choose (had t) t) i l h).1 (a, b) (ready t a b p);
-      idles = λ t h a b p. slot_idle W (Ready W e (had t) t) (choose (had t) t) h (a, b) (ready t a b p);
+      serves_pending = λ t i l h. (ready_pending t i l).0 (slot_serves W (Ready W e (had t) t) (choose (had t) t) i l h).0;
+      serves_first = λ t i l h a b p. (slot_serves W (Ready W e (had t) t) (choose (had t) t) i l h).1 (a, b) ((ready_pending t a b).1 p);
+      idles = λ t h a b p. slot_idle W (Ready W e (had t) t) (choose (had t) t) h (a, b) ((ready_pending t a b).1 p);
     }
