@@ -1,6 +1,5 @@
 -- A task that has its core to itself computes from each release on.
-use Rattle.std.proofs.Common.{◌≡◌, ℕ, zero, suc, ◌+◌, ◌-◌, ◌<◌, ◌≤◌, [], ◌∷◌, subst, inl, inr, add-zero, add-suc, mul-le-mul_right, add-mul, arith}
-use Rattle.std.proofs.lemmas.Bool.{cases_lt, cases_order}
+use Rattle.std.proofs.Common.{◌≡◌, ℕ, zero, suc, ◌+◌, ◌-◌, ◌<◌, ◌≤◌, [], ◌∷◌, inl, inr, add-zero, add-suc, arith}
 use Rattle.model.specs.Jobs.{Row, φ, activation, release}
 use Rattle.model.specs.Workloads.{workload, SoundRow}
 use Rattle.model.specs.Runs.{serves, Run, served}
@@ -12,35 +11,27 @@ use Rattle.model.proofs.Urgent.{served_early}
 
 -- a job with its core to itself is over before the next one is activated
 over_before_next : (H : ℕ) (r : Row) → SoundRow H r → (l b : ℕ) → l < b → release r l + r.compute ≤ activation r b
-over_before_next H r s l b lt = omega (arith, s.in_time l, s.figures, mul-le-mul_right r.period lt, add-mul l 1 r.period)
+over_before_next H r s l b lt = grind (arith, s.in_time l)
 
 module _ (H : ℕ) (r : Row) (s : SoundRow H r) (run : Run) (o : WorstCaseRun (workload (r ∷ [])) run) where
   module _ (l : ℕ) (earlier : (b : ℕ) → b < l → r.compute ≤ served run 0 b (release r b + r.compute)) where
     -- while job l is not done, no other job is pending
     only_pending : (d b : ℕ) → d < r.compute → Pending (workload (r ∷ [])) (workload (r ∷ [])).wcet run (release r l + d) 0 b → b ≡ l
-    only_pending d b lt p = elim (cases_order b l) [
-      | inl same ↦ same
-      | inr differ ↦ elim differ [
-        | inl before ↦ absurd (omega (arith, p.unfinished, earlier b before, over_before_next H r s b l before, served_grows run 0 b (release r b + r.compute) (release r l + d) (omega (arith, over_before_next H r s b l before))))
-        | inr after ↦ absurd (omega (arith, p.released, over_before_next H r s l b after))
-      ]
-    ]
+    only_pending d b lt p = grind (arith, earlier b, over_before_next H r s b l, over_before_next H r s l b, served_grows run 0 b (release r b + r.compute) (release r l + d))
 
     serves_it : (d : ℕ) → d < r.compute → served run 0 l (release r l + d) ≡ d → run (release r l + d) ≡ serves 0 l
     serves_it d lt had = elim (cases_slot (run (release r l + d))) [
-      | inl idles ↦ absurd (o.idles _ idles 0 l (record { task = omega arith; released = omega arith; unfinished = omega arith }))
+      | inl idles ↦ absurd (o.idles _ idles 0 l (omega arith))
       | inr (i, b, here) ↦
           let p = o.serves_pending _ i b here in
           let task : i ≡ 0 = omega (arith, p.task) in
-          let job : b ≡ l = only_pending d b lt (subst (λ (k : ℕ). Pending (workload (r ∷ [])) (workload (r ∷ [])).wcet run (release r l + d) k b) task p) in
+          let job : b ≡ l = only_pending d b lt (rw task at p) in
           cc
     ]
 
     served_from_release : (d : ℕ) → d ≤ r.compute → served run 0 l (release r l + d) ≡ d
-    served_from_release zero h = rw (add-zero (release r l)) (served_early (workload (r ∷ [])) _ run o 0 l (release r l) (omega arith))
-    served_from_release (suc d) h =
-        let had = served_from_release d (omega arith) in
-        rw (add-suc (release r l) d) (omega (arith, had, served_here run 0 l (release r l + d) (serves_it d h had)))
+    served_from_release zero h = rw add-zero (served_early (workload (r ∷ [])) _ run o 0 l (release r l) (omega arith))
+    served_from_release (suc d) h = rw add-suc (grind (arith, served_from_release d, served_here run 0 l (release r l + d), serves_it d))
 
   served_all : (n l : ℕ) → l < n → (d : ℕ) → d ≤ r.compute → served run 0 l (release r l + d) ≡ d
   served_all zero l lt = absurd (omega arith)
@@ -49,18 +40,13 @@ module _ (H : ℕ) (r : Row) (s : SoundRow H r) (run : Run) (o : WorstCaseRun (w
   pub ends_after_compute : (l : ℕ) → Ends (workload (r ∷ [])).wcet run 0 l (release r l + r.compute)
   ends_after_compute l =
       let all = served_all (suc l) l (omega arith) in
+      let early = served_early (workload (r ∷ [])) _ run o 0 l in
       record {
         done = omega (arith, all r.compute (omega arith));
-        no_sooner = λ u lt. elim (cases_lt u (release r l)) [
-          | inl early ↦ omega (arith, s.figures, served_early (workload (r ∷ [])) _ run o 0 l u (omega arith))
-          | inr late ↦
-              let e : release r l + (u - release r l) ≡ u = omega arith in
-              let had : served run 0 l u ≡ u - release r l = rw e at (all (u - release r l) (omega arith)) in
-              omega arith
-        ];
+        no_sooner = λ u lt. grind (arith, early u, all (u - release r l));
       }
 
 pub alone_finish : AloneFinish
 alone_finish H r s l run o =
     let e : release r l + r.compute ≡ activation r l + (φ r l + r.memory + r.compute) = omega arith in
-    subst (λ (t : ℕ). Ends (workload (r ∷ [])).wcet run 0 l t) e (ends_after_compute H r (s.each 0 (omega arith)) run o l)
+    rw e at (ends_after_compute H r (s.each 0 (omega arith)) run o l)

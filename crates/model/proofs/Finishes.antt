@@ -1,5 +1,5 @@
 -- When the jobs of sound rows finish, counted from their activations.
-use Rattle.std.proofs.Common.{◌≡◌, ℕ, ◌+◌, ◌-◌, ◌%◌, ◌<◌, ◌≤◌, ◌↔◌, List, length, sym, subst, arith}
+use Rattle.std.proofs.Common.{◌≡◌, ℕ, ◌+◌, ◌-◌, ◌%◌, ◌<◌, ◌≤◌, ◌↔◌, List, length, arith}
 use Rattle.model.specs.Jobs.{Row, activation}
 use Rattle.model.specs.Workloads.{row_at, workload, Sound}
 use Rattle.model.specs.Runs.{Run, MeetsDeadlines}
@@ -21,7 +21,7 @@ module _ (H : ℕ) (rows : List Row) (s : Sound H rows) where
   some_finish e r o i l t some x =
       let a = activation (row_at rows i) l in
       let back : a + (t - a) ≡ t = omega (arith, ends_after_release (workload rows) e r o i l some t x) in
-      (t - a, subst (λ (u : ℕ). Ends e r i l u) (sym back) x, back)
+      (t - a, rw back x, back)
 
   module _ (r : Run) (o : WorstCaseRun (workload rows) r) (i : ℕ) (task : i < length rows) where
     -- a job finishes as the same job of the cycle before does ..
