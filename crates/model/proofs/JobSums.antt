@@ -28,9 +28,5 @@ module _ (n m : ℕ) where
   pub jobs_lt : (f g : ℕ → ℕ → ℕ) (a b : ℕ) → ((i l : ℕ) → i < n → l < m → f i l ≤ g i l) → a < n → b < m → f a b < g a b → sum_jobs n m f < sum_jobs n m g
   jobs_lt f g a b h p q lt = sum_lt n _ _ a (λ i p. sum_le m _ _ (λ l. h i l p)) p (sum_lt m _ _ b (λ l. h a l p) q lt)
 
-  -- f is at most g, and the sum of g is no larger: so nor is g anywhere
-  pub jobs_same : (f g : ℕ → ℕ → ℕ) → ((i l : ℕ) → i < n → l < m → f i l ≤ g i l) → sum_jobs n m g ≤ sum_jobs n m f → (a b : ℕ) → a < n → b < m → g a b ≤ f a b
-  jobs_same f g h le a b p q = grind (arith, jobs_lt f g a b)
-
   pub jobs_find : (f g : ℕ → ℕ → ℕ) → sum_jobs n m f < sum_jobs n m g → (i : ℕ) × (l : ℕ) × (i < n) × (l < m) × (f i l < g i l)
   jobs_find f g h = grind (arith, sum_find)

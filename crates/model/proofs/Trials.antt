@@ -1,9 +1,9 @@
 -- Tests for rows that are written out in numbers: that they are sound, and that no interval of the first cycle is overloaded.
-use Rattle.std.proofs.Common.{◌≡◌, ℕ, ◌+◌, ◌-◌, ◌*◌, ◌<◌, Bool, true, not, ◌&&◌, ◌||◌, eqb, ltb, leb, List, length, get_or, Decides, mod-lt, arith}
+use Rattle.std.proofs.Common.{◌≡◌, ℕ, ◌+◌, ◌-◌, ◌*◌, ◌<◌, Bool, true, not, ◌&&◌, ◌||◌, eqb, ltb, leb, List, length, get_or, mod-lt, arith}
 use Rattle.std.proofs.lemmas.Bool.Decides.{nat_tests}
 use Rattle.model.specs.Jobs.{Row}
 use Rattle.model.specs.Workloads.{Workload, row_at, workload, SoundRow, Sound}
-use Rattle.model.specs.Demand.{demand, Overloaded, NoOverload}
+use Rattle.model.specs.Demand.{demand, NoOverload}
 use Rattle.model.proofs.Bounded.{all_below, passes_below, all_pairs, passes_pairs}
 use Rattle.model.proofs.FirstCycle.{in_first}
 use Rattle.model.proofs.Workloads.{many, ordered, cyclic}
@@ -49,9 +49,6 @@ sound_from_test H rows e = record {
 
 abbrev pub overloaded? : Workload → ℕ → ℕ → Bool
 overloaded? W t1 t2 = ltb t1 t2 && ltb (t2 - t1) (demand W t1 t2)
-
-pub decides_overloaded : (W : Workload) (t1 t2 : ℕ) → Decides (overloaded? W t1 t2) (Overloaded W t1 t2)
-decides_overloaded W t1 t2 = grind (arith, nat_tests)
 
 -- from t1 to the deadline of each job of the first cycle
 abbrev none_from? : List Row → ℕ → Bool
