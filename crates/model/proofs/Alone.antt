@@ -6,7 +6,7 @@ use Rattle.model.specs.Runs.{serves, Run, served}
 use Rattle.model.specs.Edf.{Pending, WorstCaseRun}
 use Rattle.model.specs.Finishes.{Ends}
 use Rattle.model.specs.Scheduling.{AloneFinish}
-use Rattle.model.proofs.Service.{cases_slot, served_here, served_grows}
+use Rattle.model.proofs.Service.{cases_slot, cases_tick, served_grows}
 use Rattle.model.proofs.Urgent.{served_early}
 
 -- a job with its core to itself is over before the next one is activated
@@ -34,7 +34,7 @@ module _ (H : ℕ) (r : Row) (s : SoundRow H r) (run : Run) (o : WorstCaseRun (w
 
     served_from_release : (d : ℕ) → d ≤ r.compute → served run 0 l (release r l + d) ≡ d
     served_from_release zero h = rw add-zero (served_early W _ run o 0 l (release r l) (omega arith))
-    served_from_release (suc d) h = rw add-suc (grind (arith, served_from_release d, served_here run 0 l (release r l + d), serves_it d))
+    served_from_release (suc d) h = rw add-suc (grind (arith, served_from_release d, cases_tick run 0 l (release r l + d), serves_it d))
 
   served_all : (n l : ℕ) → l < n → (d : ℕ) → d ≤ r.compute → served run 0 l (release r l + d) ≡ d
   served_all zero l lt = absurd (omega arith)

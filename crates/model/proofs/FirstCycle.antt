@@ -1,5 +1,5 @@
 -- The jobs repeat with the cycle and no window crosses its end, so the first cycle tells of all.
-use Rattle.std.proofs.Common.{◌≡◌, ℕ, zero, suc, ◌+◌, ◌-◌, ◌<◌, ◌≤◌, ◌⊎◌, refl, inl, inr, arith}
+use Rattle.std.proofs.Common.{◌≡◌, ℕ, zero, suc, ◌+◌, ◌-◌, ◌*◌, ◌<◌, ◌≤◌, ◌⊎◌, refl, inl, inr, le-mul_of_pos_right, arith}
 use Rattle.std.proofs.lemmas.Bool.Decides.{nat_tests}
 use Rattle.model.specs.Workloads.{Workload}
 use Rattle.model.specs.Runs.{Run, served, InWindows, MeetsDeadlines}
@@ -10,15 +10,6 @@ use Rattle.model.proofs.Sums.{sum_le, sum_shift}
 use Rattle.model.proofs.JobSums.{only}
 use Rattle.model.proofs.Service.{served_grows}
 use Rattle.model.proofs.Overloads.{none_inside_from, done_by_deadline}
-
--- where the cycle c begins
-abbrev start : ℕ → ℕ → ℕ
-start H zero = 0
-start H (suc c) = H + start H c
-
-start_far : (H c : ℕ) → 0 < H → c ≤ start H c
-start_far H zero h = omega arith
-start_far H (suc c) h = omega (arith, start_far H c h)
 
 module _ (W : Workload) (H : ℕ) (many : ℕ → ℕ) (ord : Ordered W) (y : Cyclic W H many) where
   -- a job after the first cycle has its window one cycle after that of an earlier job
@@ -38,14 +29,14 @@ module _ (W : Workload) (H : ℕ) (many : ℕ → ℕ) (ord : Ordered W) (y : Cy
       (λ l. grind (arith, nat_tests, y.again_release i l p, y.again_deadline i l p, y.again_wcet i l p))
       (none_inside_from W ord t u i p))
 
-  -- a job's window lies before the start of a cycle, or after it
-  cases_start : (c i l : ℕ) → i < W.tasks → (W.deadline i l ≤ start H c) ⊎ (start H c ≤ W.release i l)
+  -- the cycle c begins at c * H: a job's window lies before it, or after it
+  cases_start : (c i l : ℕ) → i < W.tasks → (W.deadline i l ≤ c * H) ⊎ (c * H ≤ W.release i l)
   cases_start zero i l t = inr (omega arith)
   cases_start (suc c) i l t = grind (arith, y.first i l t, earlier i l t, cases_start c i (l - many i) t)
 
   module _ (free : NoOverload W H) where
     -- no interval from a release to a deadline within one cycle, the first or a later one, is overloaded
-    never_overloaded : (c t1 t2 : ℕ) → start H c ≤ t1 → t2 ≤ start H (suc c) → IsRelease W t1 → IsDeadline W t2 → Overloaded W t1 t2 → ⊥
+    never_overloaded : (c t1 t2 : ℕ) → c * H ≤ t1 → t2 ≤ suc c * H → IsRelease W t1 → IsDeadline W t2 → Overloaded W t1 t2 → ⊥
     never_overloaded zero t1 t2 x z released due over = free t1 t2 (record { released = released; due = due; in_cycle = omega arith; overloaded = over })
     never_overloaded (suc c) t1 t2 x z (i, l, p, e) (a, b, q, f) over =
         let t1' = W.release i (l - many i) in
@@ -55,19 +46,19 @@ module _ (W : Workload) (H : ℕ) (many : ℕ → ℕ) (ord : Ordered W) (y : Cy
         never_overloaded c t1' t2' (omega arith) (omega arith) (i, l - many i, p, refl) (a, b - many a, q, refl) (omega (arith, rw (back1, back2) at over, demand_shift t1' t2'))
 
     module _ (r : Run) (o : WorstCaseRun W r) where
-      done_in_cycles : (c i l : ℕ) → i < W.tasks → W.deadline i l ≤ start H c → W.wcet i l ≤ served r i l (W.deadline i l)
+      done_in_cycles : (c i l : ℕ) → i < W.tasks → W.deadline i l ≤ c * H → W.wcet i l ≤ served r i l (W.deadline i l)
       done_in_cycles zero i l t h = absurd (omega (arith, ord.window i l t))
       done_in_cycles (suc c) i l t h = elim (cases_start c i l t) [
         | inl old ↦ done_in_cycles c i l t old
-        | inr new ↦ done_by_deadline W ord r o (start H c) (W.deadline i l)
-            (λ a b p lt. grind (arith, cases_start c a b p, done_in_cycles c a b p, served_grows r a b (W.deadline a b) (start H c)))
+        | inr new ↦ done_by_deadline W ord r o (c * H) (W.deadline i l)
+            (λ a b p lt. grind (arith, cases_start c a b p, done_in_cycles c a b p, served_grows r a b (W.deadline a b) (c * H)))
             (omega (arith, ord.window i l t))
             (λ t1 x released over. never_overloaded c t1 (W.deadline i l) x h released (i, l, t, refl) over)
             i l t refl
       ]
 
       pub meets : MeetsDeadlines W r
-      meets i l t = done_in_cycles (W.deadline i l) i l t (start_far H (W.deadline i l) y.some)
+      meets i l t = done_in_cycles (W.deadline i l) i l t (le-mul_of_pos_right (W.deadline i l) y.some)
 
       pub in_windows : InWindows W r
       in_windows t i l e = grind (arith, o.serves_pending t i l e, meets i l, served_grows r i l (W.deadline i l) t)

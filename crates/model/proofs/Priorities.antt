@@ -1,5 +1,5 @@
 -- The order in which earliest deadline first serves jobs, and its most urgent sets.
-use Rattle.std.proofs.Common.{◌≡◌, ℕ, ◌<◌, Bool, true, ◌&&◌, ◌||◌, eqb, ltb, leb, ◌⊎◌, arith}
+use Rattle.std.proofs.Common.{◌≡◌, ℕ, ◌<◌, Bool, ◌&&◌, ◌||◌, eqb, ltb, leb, ◌⊎◌, arith}
 use Rattle.std.proofs.lemmas.Bool.Decides.{nat_tests}
 use Rattle.model.specs.Workloads.{Workload}
 use Rattle.model.specs.Edf.{Before}
@@ -17,9 +17,6 @@ module _ (W : Workload) where
 
   -- ---- the order is total
 
-  pub before_itself : (i l : ℕ) → Before W i l i l
-  before_itself i l = grind arith
-
   pub before_either : (i l a b : ℕ) → Before W i l a b ⊎ Before W a b i l
   before_either i l a b = grind arith
 
@@ -34,12 +31,6 @@ module _ (W : Workload) where
 
   abbrev pub at_or_before : ℕ → ℕ → ℕ → ℕ → Bool
   at_or_before a b i l = ltb (W.deadline i l) (W.deadline a b) || (eqb (W.deadline i l) (W.deadline a b) && leb (W.number i) (W.number a))
-
-  pub passes_before : (a b i l : ℕ) → Before W i l a b → at_or_before a b i l ≡ true
-  passes_before a b i l h = grind (arith, nat_tests)
-
-  pub before_passes : (a b i l : ℕ) → at_or_before a b i l ≡ true → Before W i l a b
-  before_passes a b i l h = grind (arith, nat_tests)
 
   pub urgent_before : Ordered W → (a b : ℕ) → Urgent W (W.deadline a b) (at_or_before a b)
   urgent_before o a b = grind (arith, nat_tests, due_far W o)

@@ -1,12 +1,11 @@
 -- A run at the worst case that meets every deadline repeats with the cycle.
 use Rattle.std.proofs.Common.{◌≡◌, ℕ, zero, suc, ◌+◌, ◌-◌, ◌<◌, ◌≤◌, ◌↔◌, ◌∙◌, inl, inr, add-zero, add-suc, arith}
-use Rattle.std.proofs.lemmas.Bool.Decides.{nat_tests}
 use Rattle.model.specs.Workloads.{Workload}
 use Rattle.model.specs.Runs.{Slot, idle, serves, Run, served, MeetsDeadlines}
 use Rattle.model.specs.Edf.{Before, Pending, WorstCaseRun}
 use Rattle.model.specs.Finishes.{Ends}
 use Rattle.model.proofs.Regularity.{Ordered, Cyclic}
-use Rattle.model.proofs.Service.{cases_slot, served_grows}
+use Rattle.model.proofs.Service.{cases_slot, cases_tick, served_grows}
 use Rattle.model.proofs.Urgent.{served_early}
 use Rattle.model.proofs.Agreement.{served_same}
 
@@ -37,7 +36,7 @@ module _ (W : Workload) (H : ℕ) (many : ℕ → ℕ) (ord : Ordered W) (y : Cy
 
   same_served : (i l : ℕ) → i < W.tasks → (t : ℕ) → served r i (many i + l) (H + t) ≡ served next i l t
   same_served i l p zero = rw add-zero (served_early W W.wcet r o i (many i + l) H (omega (arith, y.again_release i l p)))
-  same_served i l p (suc t) = rw add-suc (grind (arith, nat_tests, to_next t i l, from_next t i l, same_served i l p t))
+  same_served i l p (suc t) = rw add-suc (grind (arith, cases_tick r i (many i + l) (H + t), cases_tick next i l t, to_next t i l, from_next t i l, same_served i l p t))
 
   pending_same : (t i l : ℕ) → i < W.tasks → Pending W W.wcet r (H + t) i (many i + l) ↔ Pending W W.wcet next t i l
   pending_same t i l p = omega (arith, same_served i l p t, y.again_release i l p, y.again_wcet i l p)

@@ -1,5 +1,5 @@
 -- What a run gives a job, and all jobs of a set together.
-use Rattle.std.proofs.Common.{◌≡◌, ℕ, zero, suc, ◌+◌, ◌<◌, ◌≤◌, Bool, ◌⊎◌, refl, inl, inr, arith}
+use Rattle.std.proofs.Common.{◌≡◌, ℕ, zero, suc, ◌+◌, ◌<◌, ◌≤◌, Bool, ◌⊎◌, ◌≢◌, refl, inl, inr, arith}
 use Rattle.std.proofs.lemmas.Bool.Decides.{nat_tests}
 use Rattle.model.specs.Runs.{Slot, idle, serves, Run, served}
 use Rattle.model.proofs.Steps.{rising}
@@ -12,10 +12,8 @@ cases_slot (serves a b) = inr (a, b, refl)
 -- ---- one job
 
 module _ (r : Run) (i l : ℕ) where
-  pub served_here : (t : ℕ) → r t ≡ serves i l → served r i l (suc t) ≡ served r i l t + 1
-  served_here t h = grind (arith, nat_tests)
-
-  pub cases_tick : (t : ℕ) → (r t ≡ serves i l) ⊎ (served r i l (suc t) ≡ served r i l t)
+  -- a tick goes to the job and is counted, or neither
+  pub cases_tick : (t : ℕ) → ((r t ≡ serves i l) × (served r i l (suc t) ≡ served r i l t + 1)) ⊎ ((r t ≢ serves i l) × (served r i l (suc t) ≡ served r i l t))
   cases_tick t = grind (arith, nat_tests)
 
   pub served_grows : (t u : ℕ) → t ≤ u → served r i l t ≤ served r i l u

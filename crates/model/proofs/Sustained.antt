@@ -10,7 +10,7 @@ use Rattle.model.proofs.Backlog.{less_left}
 use Rattle.model.proofs.JobSums.{jobs_le, jobs_le_both}
 use Rattle.model.proofs.Service.{last_tick, served_grows, given}
 use Rattle.model.proofs.Urgent.{wanted, all_done, greedy}
-use Rattle.model.proofs.Priorities.{before_itself, before_both, at_or_before, passes_before, before_passes, urgent_before}
+use Rattle.model.proofs.Priorities.{before_both, at_or_before, urgent_before}
 
 module _ (W : Workload) (ord : Ordered W) (c e : Execution) (less : (i l : ℕ) → i < W.tasks → e i l ≤ c i l)
     (r s : Run) (o : ObeysEdf W c r) (p : ObeysEdf W e s) (i l : ℕ) (task : i < W.tasks) where
@@ -23,7 +23,7 @@ module _ (W : Workload) (ord : Ordered W) (c e : Execution) (less : (i l : ℕ) 
   -- when the job ends in r, nothing is left of it and of what goes before it
   none_left : (f : ℕ) → r f ≡ serves i l → c i l ≤ served r i l (suc f) → wanted W bound first_jobs c (suc f) ≤ given W.tasks bound first_jobs r (suc f)
   unfolding given wanted
-  none_left f here done = jobs_le W.tasks bound _ _ (λ a b q _. grind (arith, nat_tests, o.serves_first f i l here a b, before_both W ord a b i l q task, before_passes W i l a b))
+  none_left f here done = jobs_le W.tasks bound _ _ (λ a b q _. grind (arith, nat_tests, o.serves_first f i l here a b, before_both W ord a b i l q task))
 
   wants_no_more : (t : ℕ) → wanted W bound first_jobs e (suc t) + wanted W bound first_jobs c t ≤ wanted W bound first_jobs c (suc t) + wanted W bound first_jobs e t
   unfolding wanted
@@ -41,6 +41,5 @@ module _ (W : Workload) (ord : Ordered W) (c e : Execution) (less : (i l : ℕ) 
     | inl some ↦
         let (f, lt, here, done) = last_tick r i l (c i l) t some h in
         let early : W.release i l < suc f = omega (arith, (o.serves_pending f i l here).released) in
-        let it = passes_before W i l i l (before_itself W i l) in
-        omega (arith, all_done W e s p bound first_jobs (suc f) (none_left_too f here done) i l task (due_far W ord i l task) it early, served_grows s i l (suc f) t lt)
+        omega (arith, all_done W e s p bound first_jobs (suc f) (none_left_too f here done) i l task (due_far W ord i l task) (grind (arith, nat_tests)) early, served_grows s i l (suc f) t lt)
   ]

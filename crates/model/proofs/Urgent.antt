@@ -7,7 +7,7 @@ use Rattle.model.specs.Runs.{serves, Run, served}
 use Rattle.model.specs.Edf.{Execution, Pending, Before, ObeysEdf}
 use Rattle.model.proofs.Backlog.{Greedy}
 use Rattle.model.proofs.JobSums.{sum_jobs, only, jobs_le, jobs_lt, jobs_none}
-use Rattle.model.proofs.Service.{cases_slot, served_here, served_none, given, given_grows, given_slow}
+use Rattle.model.proofs.Service.{cases_slot, cases_tick, served_none, given, given_grows, given_slow}
 
 -- ---- work that counts once its job is released
 
@@ -29,7 +29,7 @@ pub record Urgent (W : Workload) (m : ℕ) (P : ℕ → ℕ → Bool) : Type 0 w
 module _ (W : Workload) (e : Execution) (r : Run) (o : ObeysEdf W e r) where
   pub served_most : (i l t : ℕ) → served r i l t ≤ e i l
   served_most i l zero = omega arith
-  served_most i l (suc t) = grind (arith, nat_tests, o.serves_pending t i l, served_most i l t)
+  served_most i l (suc t) = grind (arith, cases_tick r i l t, o.serves_pending t i l, served_most i l t)
 
   pub served_early : (i l t : ℕ) → t ≤ W.release i l → served r i l t ≡ 0
   served_early i l t h = served_none r i l (W.release i l) (λ u g. (o.serves_pending u i l g).released) t h
@@ -60,7 +60,7 @@ module _ (W : Workload) (e : Execution) (r : Run) (o : ObeysEdf W e r) where
       unfolding given
       one_served t a b h p =
           let task = (o.serves_pending t a b h).task in
-          jobs_lt W.tasks m _ _ a b (λ i l _ _. grind arith) task (u.low a b task p) (rw p (omega (arith, served_here r a b t h)))
+          jobs_lt W.tasks m _ _ a b (λ i l _ _. grind arith) task (u.low a b task p) (grind (arith, cases_tick r a b t))
 
       cases_urgent : (t : ℕ) → (wanted W m P e (suc t) ≤ given W.tasks m P r t) ⊎ (given W.tasks m P r t < given W.tasks m P r (suc t))
       cases_urgent t = elim (cases_slot (r t)) [
