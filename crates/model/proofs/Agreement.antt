@@ -1,11 +1,10 @@
 -- Runs that obey earliest deadline first, with the same execution, are alike.
-use Rattle.std.proofs.Common.{◌≡◌, ℕ, zero, suc, ◌<◌, ◌≤◌, refl, inl, inr, arith}
+use Rattle.std.proofs.Common.{◌≡◌, ℕ, zero, suc, ◌<◌, ◌≤◌, refl, arith}
 use Rattle.model.specs.Workloads.{Workload}
 use Rattle.model.specs.Runs.{Slot, idle, serves, Run, served}
 use Rattle.model.specs.Edf.{Execution, Pending, Before, ObeysEdf}
 use Rattle.model.proofs.Regularity.{Ordered}
 use Rattle.model.proofs.Priorities.{before_both}
-use Rattle.model.proofs.Service.{cases_slot}
 
 -- tick t is rightly given to nobody, or to the job
 abbrev pub ObeysAt : Workload → Execution → Run → ℕ → Slot → Type 0
@@ -13,10 +12,7 @@ ObeysAt W e r t idle = (a b : ℕ) → Pending W e r t a b → ⊥
 ObeysAt W e r t (serves i l) = Pending W e r t i l × ((a b : ℕ) → Pending W e r t a b → Before W i l a b)
 
 pub obeys_at : (W : Workload) (e : Execution) (r : Run) → ObeysEdf W e r → (t : ℕ) → ObeysAt W e r t (r t)
-obeys_at W e r o t = elim (cases_slot (r t)) [
-  | inl q ↦ rw q (o.idles t q)
-  | inr (i, l, q) ↦ rw q (o.serves_pending t i l q, o.serves_first t i l q)
-]
+obeys_at W e r o t = grind arith
 
 module _ (W : Workload) (ord : Ordered W) (e : Execution) where
   -- where both have served each job alike so far

@@ -25,11 +25,7 @@ module _ (H : ℕ) (r : Row) (s : SoundRow H r) (run : Run) (o : WorstCaseRun (w
     serves_it : (d : ℕ) → d < r.compute → served run 0 l (release r l + d) ≡ d → run (release r l + d) ≡ serves 0 l
     serves_it d lt had = elim (cases_slot (run (release r l + d))) [
       | inl idles ↦ absurd (o.idles _ idles 0 l (omega arith))
-      | inr (i, b, here) ↦
-          let p = o.serves_pending _ i b here in
-          let task : i ≡ 0 = omega (arith, p.task) in
-          let job : b ≡ l = only_pending d b lt (rw task at p) in
-          cc
+      | inr (i, b, here) ↦ grind (arith, o.serves_pending (release r l + d) i b here, only_pending d b lt)
     ]
 
     served_from_release : (d : ℕ) → d ≤ r.compute → served run 0 l (release r l + d) ≡ d

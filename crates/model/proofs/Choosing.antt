@@ -3,7 +3,7 @@ use Rattle.std.proofs.Common.{◌≡◌, ℕ, zero, suc, ◌<◌, ◌⊎◌, inl
 use Rattle.model.specs.Workloads.{Workload}
 use Rattle.model.specs.Runs.{Slot, idle, serves}
 use Rattle.model.specs.Edf.{Before}
-use Rattle.model.proofs.Priorities.{before_either, before_trans}
+use Rattle.model.proofs.Priorities.{before_either}
 
 abbrev pub Job : Type 0
 Job = ℕ × ℕ
@@ -20,8 +20,8 @@ module _ (W : Workload) where
   choose_either P Q (inl n) (inr (x, q, f)) = inr (x, inr q, grind arith)
   choose_either P Q (inr (x, p, f)) (inl m) = inr (x, inl p, grind arith)
   choose_either P Q (inr (x, p, f)) (inr (z, q, g)) = elim (before_either W x.0 x.1 z.0 z.1) [
-    | inl a ↦ inr (x, inl p, λ y h. elim h [ inl p ↦ f y p | inr q ↦ before_trans W _ _ z.0 z.1 _ _ a (g y q) ])
-    | inr a ↦ inr (z, inr q, λ y h. elim h [ inl p ↦ before_trans W _ _ x.0 x.1 _ _ a (f y p) | inr q ↦ g y q ])
+    | inl a ↦ inr (x, inl p, λ y h. grind (arith, f y, g y))
+    | inr a ↦ inr (z, inr q, λ y h. grind (arith, f y, g y))
   ]
 
   choose_same : (P Q : Job → Type 0) → ((x : Job) → P x → Q x) → ((x : Job) → Q x → P x) → Choice P → Choice Q

@@ -12,8 +12,8 @@ use Rattle.model.proofs.Service.{last_tick, served_grows}
 pub ends_by : (e : Execution) (r : Run) (i l t : ℕ) → e i l ≤ served r i l t → (u : ℕ) × Ends e r i l u × (u ≤ t)
 ends_by e r i l zero h = (0, omega arith, omega arith)
 ends_by e r i l (suc t) h = elim (cases_lt (served r i l t) (e i l)) [
-  | inl un ↦ (suc t, record { done = h; no_sooner = λ u lt. omega (arith, served_grows r i l u t (omega arith)) }, omega arith)
-  | inr ge ↦ let (u, ends, le) = ends_by e r i l t ge in (u, ends, omega arith)
+  | inl un ↦ (suc t, grind (arith, served_grows r i l), omega arith)
+  | inr ge ↦ grind (arith, ends_by e r i l t ge)
 ]
 
 pub ends_once : (e : Execution) (r : Run) (i l t u : ℕ) → Ends e r i l t → Ends e r i l u → t ≡ u

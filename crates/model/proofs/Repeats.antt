@@ -22,21 +22,15 @@ module _ (W : Workload) (H : ℕ) (many : ℕ → ℕ) (ord : Ordered W) (y : Cy
   past_first : (t i l : ℕ) → r (H + t) ≡ serves i l → many i ≤ l
   past_first t i l h = grind (arith, o.serves_pending (H + t) i l h, m i l, y.first i l, served_grows r i l (W.deadline i l) (H + t))
 
-  to_next : (t i l : ℕ) → r (H + t) ≡ serves i (many i + l) → next t ≡ serves i l
-  to_next t i l h = grind arith
-
   from_next : (t i l : ℕ) → next t ≡ serves i l → r (H + t) ≡ serves i (many i + l)
   from_next t i l h = elim (cases_slot (r (H + t))) [
     | inl e ↦ cc
     | inr (a, b, e) ↦ grind (arith, past_first t a b e)
   ]
 
-  idle_from_next : (t : ℕ) → next t ≡ idle → r (H + t) ≡ idle
-  idle_from_next t h = grind arith
-
   same_served : (i l : ℕ) → i < W.tasks → (t : ℕ) → served r i (many i + l) (H + t) ≡ served next i l t
   same_served i l p zero = rw add-zero (served_early W W.wcet r o i (many i + l) H (omega (arith, y.again_release i l p)))
-  same_served i l p (suc t) = rw add-suc (grind (arith, cases_tick r i (many i + l) (H + t), cases_tick next i l t, to_next t i l, from_next t i l, same_served i l p t))
+  same_served i l p (suc t) = rw add-suc (grind (arith, cases_tick r i (many i + l) (H + t), cases_tick next i l t, from_next t i l, same_served i l p t))
 
   pending_same : (t i l : ℕ) → i < W.tasks → Pending W W.wcet r (H + t) i (many i + l) ↔ Pending W W.wcet next t i l
   pending_same t i l p = omega (arith, same_served i l p t, y.again_release i l p, y.again_wcet i l p)
@@ -51,7 +45,7 @@ module _ (W : Workload) (H : ℕ) (many : ℕ → ℕ) (ord : Ordered W) (y : Cy
         let g = from_next t i l h in
         before_next i l a b (o.serves_pending (H + t) i (many i + l) g).task p.task
         (o.serves_first (H + t) i (many i + l) g a (many a + b) ((pending_same t a b p.task).1 p));
-    idles = λ t h a b p. o.idles (H + t) (idle_from_next t h) a (many a + b) ((pending_same t a b p.task).1 p);
+    idles = λ t h a b p. o.idles (H + t) (grind arith) a (many a + b) ((pending_same t a b p.task).1 p);
   }
 
   served_again : (i l : ℕ) → i < W.tasks → (t : ℕ) → served r i (many i + l) (H + t) ≡ served r i l t
@@ -69,6 +63,6 @@ module _ (W : Workload) (H : ℕ) (many : ℕ → ℕ) (ord : Ordered W) (y : Cy
     }),
     (λ x. record {
       done = omega (arith, x.done, served_again i l p t, y.again_wcet i l p);
-      no_sooner = λ u lt. omega (arith, x.no_sooner (H + u) (omega arith), served_again i l p u, y.again_wcet i l p);
+      no_sooner = λ u lt. grind (arith, x.no_sooner (H + u), served_again i l p u, y.again_wcet i l p);
     }),
   )

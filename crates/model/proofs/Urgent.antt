@@ -1,6 +1,6 @@
 -- Earliest deadline first serves a set of most urgent jobs in every tick in which one of them has work left.
 use Rattle.std.proofs.Common.{◌≡◌, ℕ, zero, suc, ◌<◌, ◌≤◌, Bool, true, ◌&&◌, ltb, ◌⊎◌, inl, inr, arith}
-use Rattle.std.proofs.lemmas.Bool.{cases_Bool, both_ways}
+use Rattle.std.proofs.lemmas.Bool.{cases_Bool}
 use Rattle.std.proofs.lemmas.Bool.Decides.{nat_tests}
 use Rattle.model.specs.Workloads.{Workload}
 use Rattle.model.specs.Runs.{serves, Run, served}
@@ -67,7 +67,7 @@ module _ (W : Workload) (e : Execution) (r : Run) (o : ObeysEdf W e r) where
         | inl none ↦ inl (none_pending t (λ a b _ q. o.idles t none a b q))
         | inr (i, l, h) ↦ elim (cases_Bool (P i l)) [
           | inl p ↦ inr (one_served t i l h p)
-          | inr p ↦ inl (none_pending t (λ a b pa q. both_ways _ p (u.closed i l a b pa (o.serves_first t i l h a b q))))
+          | inr p ↦ inl (none_pending t (λ a b pa q. grind (arith, u.closed i l a b pa, o.serves_first t i l h a b q)))
         ]
       ]
 
