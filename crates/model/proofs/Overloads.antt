@@ -22,7 +22,7 @@ none_inside_from W ord t u i p l q = grind (arith, nat_tests, due_far W ord i l 
 module _ (W : Workload) (r : Run) (w : InWindows W r) (m : MeetsDeadlines W r) (t1 t2 : ℕ) where
   none_yet : given W.tasks t2 (inside W t1 t2) r t1 ≡ 0
   unfolding given
-  none_yet = jobs_none W.tasks t2 _ (λ i l _ _. grind (arith, nat_tests, served_none r i l (W.release i l) (λ t h. (w t i l h).1) t1))
+  none_yet = jobs_none W.tasks t2 _ (λ i l _ _. grind (arith, nat_tests, served_none r i l (W.release i l) (λ t h. omega (arith, w t i l h)) t1))
 
   all_then : demand W t1 t2 ≤ given W.tasks t2 (inside W t1 t2) r t2
   unfolding given
@@ -51,21 +51,18 @@ module _ (W : Workload) (ord : Ordered W) (r : Run) (o : WorstCaseRun W r) (t0 d
       let le : R t0 ≤ S t0 = jobs_le W.tasks d _ _ (λ i l t _. grind (arith, nat_tests, done i l t)) in
       omega (arith, served_le S R g t0)
 
+  -- the work of one such job, where it is released before t
+  abbrev work : ℕ → ℕ → ℕ → ℕ
+  work t = only (released_before W (due_by W d) t) W.wcet
+
   rest_is_inside : (t1 : ℕ) → R d ≤ R t1 + demand W t1 d
   unfolding wanted
-  rest_is_inside t1 = omega (
-    arith,
-    jobs_le_both W.tasks d
-        (only (released_before W (due_by W d) d) W.wcet) (λ i l. 0)
-        (only (released_before W (due_by W d) t1) W.wcet) (only (inside W t1 d) W.wcet)
-        (λ i l _ _. grind (arith, nat_tests)),
-  )
+  rest_is_inside t1 = omega (arith, jobs_le_both W.tasks d (work d) (λ i l. 0) (work t1) (only (inside W t1 d) W.wcet) (λ i l _ _. grind (arith, nat_tests)))
 
   a_release : (t1 : ℕ) → R t1 < R (suc t1) → IsRelease W t1
   unfolding wanted
   a_release t1 h =
-      let (a, b, p, q, lt) = jobs_find W.tasks d (only (released_before W (due_by W d) t1) W.wcet) (only (released_before W (due_by W d) (suc t1)) W.wcet) h in
-      (a, b, p, grind (arith, nat_tests))
+      let (a, b, p, q, lt) = jobs_find W.tasks d (work t1) (work (suc t1)) h in (a, b, p, grind (arith, nat_tests))
 
   -- work that is due by d and left then began with a release, from which on the interval is overloaded
   overloaded : t0 ≤ d → S d < R d → (t1 : ℕ) × (t0 ≤ t1) × IsRelease W t1 × Overloaded W t1 d

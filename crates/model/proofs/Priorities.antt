@@ -20,9 +20,6 @@ module _ (W : Workload) where
   pub before_either : (i l a b : ℕ) → Before W i l a b ⊎ Before W a b i l
   before_either i l a b = grind arith
 
-  pub before_trans : (i l c d a b : ℕ) → Before W i l c d → Before W c d a b → Before W i l a b
-  before_trans i l c d a b x y = grind arith
-
   -- two jobs that each go before the other are one
   pub before_both : Ordered W → (i l a b : ℕ) → i < W.tasks → a < W.tasks → Before W i l a b → Before W a b i l → (i ≡ a) × (l ≡ b)
   before_both o i l a b p q x y = grind (arith, o.numbers i a, o.apart i l b)

@@ -55,11 +55,10 @@ module _ (W : Workload) (o : Ordered W) (e : Execution) where
         (λ t h. obeys_from_test (run_of table) t (run_of table t) (passes_below (length table) _ t h c))
 
     pub ends_as_in_table : (i l t : ℕ) → ends? e table i l t ≡ true → Ends e r i l t
-    ends_as_in_table i l t d =
-        record {
-          done = grind (arith, nat_tests, served_as_in_table t);
-          no_sooner = λ u h. grind (arith, nat_tests, served_as_in_table u, passes_below t (λ u. ltb (served (run_of table) i l u) (e i l)) u h);
-        }
+    ends_as_in_table i l t d = record {
+      done = grind (arith, nat_tests, served_as_in_table t);
+      no_sooner = λ u h. grind (arith, nat_tests, served_as_in_table u, passes_below t (λ u. ltb (served (run_of table) i l u) (e i l)) u h);
+    }
 
 pub told_from_table : (H : ℕ) (rows : List Row) → Sound H rows →
     (table : List Slot) → obeys? (workload rows) (workload rows).wcet table ≡ true →
