@@ -34,16 +34,13 @@ module _ (H : ℕ) (r : Row) (s : SoundRow H r) (run : Run) (o : WorstCaseRun (w
 
   served_all : (n l : ℕ) → l < n → (d : ℕ) → d ≤ r.compute → served run 0 l (release r l + d) ≡ d
   served_all zero l lt = absurd (omega arith)
-  served_all (suc n) l lt = served_from_release l (λ b before. omega (arith, served_all n b (omega arith) r.compute (omega arith)))
+  served_all (suc n) l lt = served_from_release l (λ b before. omega (arith, served_all n b (omega arith) r.compute))
 
   pub ends_after_compute : (l : ℕ) → Ends W.wcet run 0 l (release r l + r.compute)
   ends_after_compute l =
       let all = served_all (suc l) l (omega arith) in
       let early = served_early W _ run o 0 l in
-      record {
-        done = omega (arith, all r.compute (omega arith));
-        no_sooner = λ u lt. grind (arith, early u, all (u - release r l));
-      }
+      record { done = omega (arith, all r.compute); no_sooner = λ u lt. grind (arith, early u, all (u - release r l)) }
 
 pub alone_finish : AloneFinish
 alone_finish H r s l run o =

@@ -1,6 +1,5 @@
 -- An overloaded interval cannot be served in time, and a job that misses its deadline under earliest deadline first tells of one.
-use Rattle.std.proofs.Common.{◌≡◌, ℕ, suc, ◌+◌, ◌<◌, ◌≤◌, inl, inr, arith}
-use Rattle.std.proofs.lemmas.Bool.{cases_lt}
+use Rattle.std.proofs.Common.{◌≡◌, ℕ, suc, ◌+◌, ◌<◌, ◌≤◌, arith}
 use Rattle.std.proofs.lemmas.Bool.Decides.{nat_tests}
 use Rattle.model.specs.Workloads.{Workload}
 use Rattle.model.specs.Runs.{Run, served, InWindows, MeetsDeadlines}
@@ -72,7 +71,4 @@ module _ (W : Workload) (ord : Ordered W) (r : Run) (o : WorstCaseRun W r) (t0 d
 
   pub done_by_deadline : t0 ≤ d → ((t1 : ℕ) → t0 ≤ t1 → IsRelease W t1 → Overloaded W t1 d → ⊥) →
       (i l : ℕ) → i < W.tasks → W.deadline i l ≡ d → W.wcet i l ≤ served r i l d
-  done_by_deadline h none i l t e = elim (cases_lt (S d) (R d)) [
-    | inl left ↦ absurd (let (t1, x, released, over) = overloaded h left in none t1 x released over)
-    | inr ge ↦ all_done W W.wcet r o d (due_by W d) d ge i l t (omega (arith, due_far W ord i l t)) (grind (arith, nat_tests)) (omega (arith, ord.window i l t))
-  ]
+  done_by_deadline h none i l t e = grind (arith, nat_tests, overloaded h, all_done W W.wcet r o d (due_by W d) d, due_far W ord i l t, ord.window i l t)

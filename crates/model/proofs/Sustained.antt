@@ -40,6 +40,6 @@ module _ (W : Workload) (ord : Ordered W) (c e : Execution) (less : (i l : ℕ) 
     | inr none ↦ omega (arith, less i l task)
     | inl some ↦
         let (f, lt, here, done) = last_tick r i l (c i l) t some h in
-        let early : W.release i l < suc f = omega (arith, (o.serves_pending f i l here).released) in
-        omega (arith, all_done W e s p bound first_jobs (suc f) (none_left_too f here done) i l task (due_far W ord i l task) (grind (arith, nat_tests)) early, served_grows s i l (suc f) t lt)
+        let all = all_done W e s p bound first_jobs (suc f) (none_left_too f here done) i l task (due_far W ord i l task) in
+        grind (arith, nat_tests, all, o.serves_pending f i l here, served_grows s i l (suc f) t)
   ]
