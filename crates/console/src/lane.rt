@@ -35,6 +35,7 @@ impl Lane {
     }
 
     /// Marks `len` ticks, the first at `from`, with the last digit of a job's number.
+    // A range of ticks would have an end, which callers would first have to show to be a number of 64 bits.
     pub(crate) fn mark(&mut self, from: u64, len: u32, job: u32)
         ensures { Marked self.old.cells from len job self.new.cells }
     {
@@ -58,6 +59,7 @@ fn digit(n: u32) -> char
 
 impl fmt::Display for Lane {
     fn fmt<W: fmt::Write>(&self, f: &mut fmt::Formatter<W>) -> fmt::Result {
+        // Characters in an array are no text that could be written at once.
         for cell in self.cells {
             f.write_char(cell)?;
         }

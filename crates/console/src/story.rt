@@ -49,7 +49,8 @@ fn place_as_asked(heap: Global, task: &Task, text: &str) -> Result<Placement, Re
     }
 }
 
-/// Places the task by a source under some lags, the outermost first. Each lag is a layer of the source's type.
+/// Places the task by a source under some lags, the outermost first.
+// A case for each number of lags: each is a layer of the source's type, and a function cannot recur over types.
 fn under_lags<S: OffsetSource + Copy>(
     heap: Global,
     task: &Task,

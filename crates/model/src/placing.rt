@@ -19,6 +19,7 @@ pub enum Misplaced {
 
 /// Reads the offset of each of the `jobs` of a cycle into the front of `offsets`, and answers whether
 /// every job has one and is in time with it. That each has one is settled before any is looked at.
+// The number of jobs stands beside the memory, since what is lent may have more places.
 pub fn place<S: OffsetSource>(
     figures: &Figures,
     jobs: u32,
@@ -34,6 +35,7 @@ pub fn place<S: OffsetSource>(
     let offsets = &mut offsets[..jobs as usize];
     for (job, offset) in offsets.iter_mut().enumerate() {
         let job = job as u32;
+        // An `ok_or` with `?` leaves unproved what the memory then holds.
         let Some(found) = source.offset(job) else {
             return Err(Misplaced::NoOffset { job });
         };

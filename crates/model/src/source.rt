@@ -40,6 +40,7 @@ impl OffsetSource for Listed<'_> {
     #[tactic(auto, using(crate::proofs::Walks::listed_steps))]
     fn offset(&self, job: u32) -> Option<u32> {
         let mut rest = self.bytes;
+        // Counts the numbers to pass over. No index is kept.
         for _ in 0..job {
             let Number { len, .. } = read_number(rest).ok()?;
             rest = &rest[len..];

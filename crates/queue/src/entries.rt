@@ -15,6 +15,7 @@ pub struct Phase {
     pub length: u32,
 }
 
+// An impl for each type of entries: its numbers and their order have names of their own.
 impl Order for Phase {
     ghost precedes = { phase_precedes };
 

@@ -11,6 +11,7 @@ pub mod sorting;
 
 /// Entries that wait in memory that is lent, the least to be taken first.
 /// They are the first `count` elements, in the order of a heap; what lies past those means nothing.
+// A lent slice with a count, and no `Vec`: the memory is the user's, and a put allocates nothing.
 #[derive(Drop)]
 pub struct PriorityQueue<'a, E: Order + Copy> {
     memory: &'a mut [E],
@@ -28,6 +29,7 @@ impl Full {
     pub fn number(self) -> u32
         ensures { result ≡ 27 }
     {
+        // A refusal with no variants has none to give the number to.
         27
     }
 }
