@@ -35,11 +35,7 @@ pub fn place<S: OffsetSource>(
     let offsets = &mut offsets[..jobs as usize];
     for (job, offset) in offsets.iter_mut().enumerate() {
         let job = job as u32;
-        // An `ok_or` with `?` leaves unproved what the memory then holds.
-        let Some(found) = source.offset(job) else {
-            return Err(Misplaced::NoOffset { job });
-        };
-        *offset = found;
+        *offset = source.offset(job).ok_or(Misplaced::NoOffset { job })?;
     }
     match first_late(figures, offsets) {
         Some(job) => Err(Misplaced::TooLate { job: job as u32 }),
