@@ -1,7 +1,8 @@
 //! Writing a number into a lent buffer.
 
-ghost use Rattle.std.specs.Prelude.{◌≡◌, ◌+◌, ◌%◌, ◌<◌, length, IfOk, IfErr, OnErr};
+ghost use Rattle.std.specs.Prelude.{◌≡◌, ◌+◌, ◌^◌, ◌<◌, length, IfOk, IfErr, OnErr};
 ghost use Rattle.wire.specs.declared.writing.Unwritten.TheVariants.{NoRoom};
+ghost use Rattle.wire.specs.Numbers.{groups};
 ghost use Rattle.wire.specs.Writing.{Stands, Written};
 
 use super::reading::MAX_NUMBER;
@@ -21,47 +22,28 @@ pub enum Unwritten {
 pub fn write_number(out: &mut [u8], at: usize, value: u32) -> Result<usize, Unwritten>
     ensures { Written out.old at value result out.new }
 {
-    // each byte takes seven bits, so one is enough below 128, two below 128 * 128, and so on
-    match value {
-        0..128 => put(out, at, &[value as u8]),
-        128..16_384 => put(out, at, &[more(value), (value / 128) as u8]),
-        16_384..2_097_152 => put(
-            out,
-            at,
-            &[more(value), more(value / 128), (value / 128 / 128) as u8],
-        ),
-        2_097_152..=MAX_NUMBER => put(
-            out,
-            at,
-            &[
-                more(value),
-                more(value / 128),
-                more(value / 128 / 128),
-                (value / 128 / 128 / 128) as u8,
-            ],
-        ),
-        _ => Err(Unwritten::TooLarge),
+    if value > MAX_NUMBER {
+        return Err(Unwritten::TooLarge);
     }
+    write_groups(out, at, value, 3)
 }
 
-/// Puts `bytes` at the place `at` of the buffer, and answers the place after them.
-/// Where they do not fit, the buffer stays as it is.
-fn put(out: &mut [u8], at: usize, bytes: &[u8]) -> Result<usize, Unwritten>
-    ensures ok { IfOk result (λ next. Stands out.old at bytes.now next out.new) }
+/// Writes a number that takes at most `more` bytes after its first, and answers the place after it.
+/// The last byte is written first, so that where they do not all fit, the buffer stays as it is.
+fn write_groups(out: &mut [u8], at: usize, value: u32, more: u32) -> Result<usize, Unwritten>
+    requires { value < 128 ^ (more + 1) }
+    ensures ok { IfOk result (λ next. Stands out.old at (groups more value) next out.new) }
     ensures err { OnErr result (out.new ≡ out.old) }
-    ensures no_room { IfErr result (λ why. (why ≡ NoRoom) × (length out.old < at + length bytes.now)) }
+    ensures no_room { IfErr result (λ why. (why ≡ NoRoom) × (length out.old < at + length (groups more value))) }
 {
-    let next = at
-        .checked_add(bytes.len())
-        .filter(|next| *next <= out.len())
-        .ok_or(Unwritten::NoRoom)?;
-    out[at..next].copy_from_slice(bytes);
+    if at >= out.len() {
+        return Err(Unwritten::NoRoom);
+    }
+    if value < 128 {
+        out[at] = value as u8;
+        return Ok(at + 1);
+    }
+    let next = write_groups(out, at + 1, value / 128, more - 1)?;
+    out[at] = (value % 128 + 128) as u8;
     Ok(next)
-}
-
-/// The lowest seven bits of a number, under a top bit that says that more follow.
-fn more(value: u32) -> u8
-    ensures { result ≡ value % 128 + 128 }
-{
-    (value % 128 + 128) as u8
 }
