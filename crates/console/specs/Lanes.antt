@@ -1,9 +1,10 @@
 -- Lanes of a picture: a character, by its code, for each tick.
 use Rattle.std.specs.Prelude.{◌≡◌, ℕ, ◌+◌, ◌%◌, ◌<◌, cond, ◌&&◌, List, nat_le, nat_lt, slice_index}
+use Rattle.console.specs.declared.lane.TheConstants.{CYCLE}
 
--- a lane has a place for each of 20 ticks
+-- a lane has a place for each tick of the cycle
 abbrev pub width : ℕ
-width = 20
+width = CYCLE
 
 -- each tick shows a dot
 abbrev pub Idle : List ℕ → Type 0

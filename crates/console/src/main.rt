@@ -12,29 +12,31 @@ mod refusal;
 mod request;
 mod story;
 
+/// The task that each line places.
+const TASK: Task = Task {
+    number: 1,
+    core: 0,
+    figures: Figures {
+        memory: 2,
+        compute: 3,
+        deadline: 8,
+        period: 10,
+    },
+};
+
 fn main(rt: HostRuntime) -> anyhow::Result<()> {
     converse(&rt)
 }
 
 /// Answers each line of standard input in turn.
 fn converse(rt: &(impl Input + Print + AllocGlobal)) -> anyhow::Result<()> {
-    let task = Task {
-        number: 1,
-        core: 0,
-        figures: Figures {
-            memory: 2,
-            compute: 3,
-            deadline: 8,
-            period: 10,
-        },
-    };
-    story::introduce(rt, &task)?;
+    story::introduce(rt, &TASK)?;
     for line in rt.lines(rt.alloc()) {
         let line = line?;
         let text = line.as_str().trim();
         if !text.is_empty() && !text.starts_with('#') {
             println!(rt; "\n> {text}")?;
-            story::answer(rt, rt.alloc(), &task, text)?;
+            story::answer(rt, rt.alloc(), &TASK, text)?;
         }
     }
     Ok(())

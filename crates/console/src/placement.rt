@@ -76,25 +76,12 @@ impl Placement {
 #[cfg(test)]
 mod tests {
     use super::*;
-    use model::figures::Figures;
+    use crate::TASK;
     use model::source::{Listed, Steady};
-
-    fn task() -> Task {
-        Task {
-            number: 1,
-            core: 0,
-            figures: Figures {
-                memory: 2,
-                compute: 3,
-                deadline: 8,
-                period: 10,
-            },
-        }
-    }
 
     #[test]
     fn a_steady_task_is_placed(rt: HostRuntime) -> Result<(), Refusal> {
-        let placement = Placement::new(rt.alloc(), &task(), &Steady { offset: 3 })?;
+        let placement = Placement::new(rt.alloc(), &TASK, &Steady { offset: 3 })?;
         assert_eq!(rt; placement.jobs(), 2);
         assert_eq!(rt; placement.timeline(1).copy, 13);
         assert_eq!(rt; placement.timeline(2).copy, 23);
@@ -103,7 +90,7 @@ mod tests {
 
     #[test]
     fn a_short_list_is_refused(rt: HostRuntime) {
-        let placed = Placement::new(rt.alloc(), &task(), &Listed { bytes: &[0] });
+        let placed = Placement::new(rt.alloc(), &TASK, &Listed { bytes: &[0] });
         assert!(rt; matches!(placed, Err(Refusal::NoOffset { job: 1 })));
     }
 }

@@ -37,10 +37,9 @@ pub fn place<S: OffsetSource>(
         let job = job as u32;
         *offset = source.offset(job).ok_or(Misplaced::NoOffset { job })?;
     }
-    match first_late(figures, offsets) {
-        Some(job) => Err(Misplaced::TooLate { job: job as u32 }),
-        None => Ok(()),
-    }
+    first_late(figures, offsets).map_or(Ok(()), |job| {
+        Err(Misplaced::TooLate { job: job as u32 })
+    })
 }
 
 /// The first job that is not in time with its offset.

@@ -31,10 +31,9 @@ impl Task {
         ensures fitting { IsSome result ↔ Fitting (row_of self.now offsets.now) job }
         ensures happens { IfSome result (Happens (row_of self.now offsets.now) job) }
     {
-        if offsets.is_empty() {
-            return None;
-        }
-        let offset = offsets[job as usize % offsets.len()];
+        // After a cycle the offsets repeat.
+        let place = (job as usize).checked_rem(offsets.len())?;
+        let offset = offsets[place];
         if !self.figures.in_time(offset) {
             return None;
         }
