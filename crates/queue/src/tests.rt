@@ -4,6 +4,7 @@ use super::entries::*;
 use super::heap::sorting::sort;
 use super::heap::*;
 use super::order::Order;
+use std::cmp::Reverse;
 use std::test::Fail;
 
 /// The phase whose four numbers are the digits of `code`, so that phases are ordered as their codes are.
@@ -106,15 +107,11 @@ fn a_long_mix_beside_a_sorted_list(rt: HostRuntime) -> Result<(), Fail> {
             assert_eq!(rt; queue.put(phase(code)).is_ok(), room);
             if room {
                 codes.push(code)?;
-                codes.sort()?;
+                // the least last, to be popped first
+                codes.sort_unstable_by_key(|code| Reverse(*code));
             }
         } else {
-            let least = if codes.is_empty() {
-                None
-            } else {
-                Some(phase(codes.remove(0)))
-            };
-            assert_eq!(rt; queue.take(), least);
+            assert_eq!(rt; queue.take(), codes.pop().map(phase));
         }
     }
     Ok(())
