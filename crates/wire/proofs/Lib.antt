@@ -1,2 +1,3 @@
 pub mod Spellings
+pub mod Worths
 pub mod Groups

@@ -1,5 +1,6 @@
 //! What the definitions of spelling and reading come to. Each function here does nothing: its contract is a theorem.
 
+ghost use Rattle.wire.specs.Groups.{SpellingIsGrouped};
 ghost use Rattle.wire.specs.Numbers.{ReadsBack, HasOneSpelling, EndsWhereCut};
 
 /// Every number that can be spelled reads back from its spelling, whatever follows it.
@@ -16,4 +17,10 @@ pub fn read_is_spelled()
 /// Every other fault is a misspelling.
 pub fn cut_ends()
     ensures { EndsWhereCut }
+{}
+
+/// The spelling of a number is its groups of seven bits, the lowest first, as few as can be, each but the last
+/// with its top bit set; and nothing else is.
+pub fn spelling_is_grouped()
+    ensures { SpellingIsGrouped }
 {}
