@@ -1,3 +1,4 @@
+pub mod Groups
+pub mod Places
 pub mod Spellings
 pub mod Worths
-pub mod Groups

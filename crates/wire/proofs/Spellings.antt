@@ -56,7 +56,7 @@ unfolding spelling
 spelled_some n = grind (arith, nat_tests)
 
 -- an answer that is the first number is right; of a fault, since what is spelled would read back
-read : (bs : List ℕ) (r : Result Number Fault) → Bytes bs → r ≡ first_number bs → Read bs r
+pub read : (bs : List ℕ) (r : Result Number Fault) → Bytes bs → r ≡ first_number bs → Read bs r
 read bs (Ok n) b e = grind (arith, common_steps, has_one_spelling bs n b, spelled_some)
 read bs (Err fault) b e = grind (arith, ends_where_cut bs, λ (n : Number). reads_back n.value (drop n.len bs))
 

@@ -6,6 +6,10 @@ use Rattle.wire.specs.Numbers.{largest, spelling, Bytes}
 abbrev pub group : List ℕ → ℕ → ℕ
 group bs i = slice_index bs i % 128
 
+-- what the groups of four bytes are worth together, the lowest first
+abbrev pub worth : List ℕ → ℕ
+worth bs = group bs 0 + 128 * group bs 1 + 128 * 128 * group bs 2 + 128 * 128 * 128 * group bs 3
+
 -- the place of the last byte
 abbrev pub last : List ℕ → ℕ
 last bs = length bs - 1
@@ -15,7 +19,7 @@ last bs = length bs - 1
 pub record Grouped (n : ℕ) (bs : List ℕ) : Type 0 where
   pub some : 1 ≤ length bs
   pub few : length bs ≤ 4
-  pub value : n ≡ group bs 0 + 128 * group bs 1 + 128 * 128 * group bs 2 + 128 * 128 * 128 * group bs 3
+  pub value : n ≡ worth bs
   pub more_follow : (i : ℕ) → i < last bs → 128 ≤ slice_index bs i
   pub none_follows : slice_index bs (last bs) < 128
   pub shortest : 2 ≤ length bs → 1 ≤ slice_index bs (last bs)

@@ -1,8 +1,10 @@
 //! Reading a number off the front of some bytes.
 
-ghost use Rattle.std.specs.Prelude.{◌≡◌, ◌+◌, ◌^◌, ◌<◌, ◌≤◌, IfOk};
+ghost use Rattle.std.specs.Prelude.{◌≡◌, ◌-◌, ◌%◌, ◌≤◌, ◌==◌, ◌&&◌, ◌||◌, nat_lt, slice_index, if◌then◌else◌, Ok, Err};
+ghost use Rattle.wire.specs.declared.reading.Fault.TheVariants.{Misspelt};
 ghost use Rattle.wire.specs.Faults.{fault_number};
-ghost use Rattle.wire.specs.Numbers.{joined_groups, Read};
+ghost use Rattle.wire.specs.Groups.{worth};
+ghost use Rattle.wire.specs.Numbers.{largest, Read};
 
 /// The largest number that can be spelled.
 pub const MAX_NUMBER: u32 = 16_777_215;
@@ -36,40 +38,34 @@ pub struct Number {
 pub fn read_number(bytes: &[u8]) -> Result<Number, Fault>
     ensures { Read bytes.now result }
 {
-    let number = read_groups(bytes, 3)?;
-    if number.value > MAX_NUMBER {
-        return Err(Fault::Misspelt);
+    match bytes {
+        [a, ..] if *a < 128 => joined([*a, 0, 0, 0], 1),
+        [a, b, ..] if *b < 128 => joined([*a, *b, 0, 0], 2),
+        [a, b, c, ..] if *c < 128 => joined([*a, *b, *c, 0], 3),
+        [a, b, c, d, ..] if *d < 128 => joined([*a, *b, *c, *d], 4),
+        [_, _, _, _, ..] => Err(Fault::Misspelt),
+        _ => Err(Fault::Ends),
     }
-    Ok(number)
 }
 
-/// The number that `bytes` begin with, where at most `more` bytes follow its first.
-/// The first has its lowest seven bits, and a top bit that says whether the rest have more of it.
-fn read_groups(bytes: &[u8], more: u32) -> Result<Number, Fault>
-    requires { more ≤ 3 }
-    ensures number { result ≡ joined_groups more bytes.now }
-    ensures value { IfOk result (λ n. n.value < 128 ^ (more + 1)) }
-    ensures used { IfOk result (λ n. n.len ≤ more + 1) }
+/// The number that the first `len` of four bytes spell, the lowest group first. The others are 0.
+fn joined(bytes: [u8; 4], len: usize) -> Result<Number, Fault>
+    requires some { 1 ≤ len }
+    requires few { len ≤ 4 }
+    ensures { result ≡ (if nat_lt largest (worth bytes) || (nat_lt 1 len && slice_index bytes (len - 1) == 0) then Err Misspelt else Ok (record { value = worth bytes; len = len })) }
 {
-    let [first, rest @ ..] = bytes else {
-        return Err(Fault::Ends);
-    };
-    if *first < 128 {
-        return Ok(Number {
-            value: u32::from(*first),
-            len: 1,
-        });
-    }
-    if more == 0 {
+    let [a, b, c, d] = bytes;
+    let value = low(a) + 128 * (low(b) + 128 * (low(c) + 128 * low(d)));
+    // with nothing in its last group, the number has a shorter spelling
+    if value > MAX_NUMBER || (len > 1 && bytes[len - 1] == 0) {
         return Err(Fault::Misspelt);
     }
-    let above = read_groups(rest, more - 1)?;
-    // with nothing above its lowest seven bits, the number has a shorter spelling
-    if above.value == 0 {
-        return Err(Fault::Misspelt);
-    }
-    Ok(Number {
-        value: u32::from(*first) - 128 + 128 * above.value,
-        len: above.len + 1,
-    })
+    Ok(Number { value, len })
+}
+
+/// The lowest seven bits of a byte.
+fn low(byte: u8) -> u32
+    ensures { result ≡ byte % 128 }
+{
+    u32::from(byte % 128)
 }

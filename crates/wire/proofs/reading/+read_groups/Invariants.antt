@@ -1,4 +1,0 @@
-use Rattle.wire.proofs.reading.+read_groups.Given as goal
-
-abbrev pub decreases-read_groups : goal.decreases-read_groups
-decreases-read_groups l = l.more
