@@ -2,6 +2,7 @@ pub mod Changes
 pub mod Emptying
 pub mod Filling
 pub mod Holes
+pub mod Keys
 pub mod Leasts
 pub mod Orders
 pub mod Sifts

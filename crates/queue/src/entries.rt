@@ -1,6 +1,7 @@
 //! The entries that wait: memory phases of the channel, and ready jobs of a core.
 
-ghost use Rattle.queue.specs.Keys.{phase_precedes, ready_precedes};
+ghost use Rattle.std.specs.Prelude.{◌≡◌};
+ghost use Rattle.queue.specs.Keys.{lexicographic, phase_key, phase_precedes, ready_key, ready_precedes};
 ghost use Rattle.std.proofs.Common.{rules};
 
 use super::order::Order;
@@ -16,6 +17,15 @@ pub struct Phase {
 }
 
 // An impl for each type of entries: its numbers and their order have names of their own.
+impl Phase {
+    /// The numbers that phases are compared by.
+    fn key(&self) -> [u32; 4]
+        ensures { result ≡ phase_key self.now }
+    {
+        [self.start, self.task, self.job, self.length]
+    }
+}
+
 impl Order for Phase {
     ghost precedes = { phase_precedes };
 
@@ -26,7 +36,7 @@ impl Order for Phase {
     } };
 
     fn at_or_before(&self, other: &Phase) -> bool {
-        self <= other
+        compare(self.key(), other.key())
     }
 }
 
@@ -40,6 +50,15 @@ pub struct Ready {
     pub left: u32,
 }
 
+impl Ready {
+    /// The numbers that ready jobs are compared by.
+    fn key(&self) -> [u32; 4]
+        ensures { result ≡ ready_key self.now }
+    {
+        [self.deadline, self.task, self.job, self.left]
+    }
+}
+
 impl Order for Ready {
     ghost precedes = { ready_precedes };
 
@@ -50,6 +69,18 @@ impl Order for Ready {
     } };
 
     fn at_or_before(&self, other: &Ready) -> bool {
-        self <= other
+        compare(self.key(), other.key())
     }
+}
+
+/// Whether the first numbers are at or before the second: at the first place where they differ, the smaller.
+fn compare(these: [u32; 4], those: [u32; 4]) -> bool
+    ensures { result ≡ lexicographic these those }
+{
+    for i in 0..4 {
+        if these[i] != those[i] {
+            return these[i] < those[i];
+        }
+    }
+    true
 }
