@@ -1,5 +1,5 @@
 -- What a task's placement by a source is, and why there is none.
-use Rattle.std.specs.Prelude.{◌≡◌, ◌≢◌, ℕ, ◌*◌, ◌<◌, ◌≤◌, List, [], ◌∷◌, Some, None, Ok, Err, Result, vec_len, slice_index}
+use Rattle.std.specs.Prelude.{◌≡◌, ◌≢◌, ℕ, ◌*◌, ◌<◌, ◌≤◌, List, [], ◌∷◌, Some, None, Ok, Err, Result, length, slice_index}
 use Rattle.model.specs.declared.task.Task.{Task}
 use Rattle.model.specs.Rules.{InTime}
 use Rattle.model.specs.Sources.{Meaning, late}
@@ -16,8 +16,8 @@ FillCycle task jobs = jobs * task.figures.period ≡ CYCLE
 -- the placement is of this task, and has the offset that the source means for each job of the cycle
 pub record Places (task : Task) (m : Meaning) (p : Placement) : Type 0 where
   pub same : p.task ≡ task
-  pub jobs : FillCycle task (vec_len p.offsets)
-  pub offsets : (j : ℕ) → j < vec_len p.offsets → m j ≡ Some (slice_index p.offsets.items j)
+  pub jobs : FillCycle task (length p.offsets.now)
+  pub offsets : (j : ℕ) → j < length p.offsets.now → m j ≡ Some (slice_index p.offsets.now j)
 
 -- the source has an offset for each job below n
 abbrev pub HasBelow : Meaning → ℕ → Type 0

@@ -1,6 +1,6 @@
 //! A task that is placed: it has an offset for each job of the cycle, and every job is in time.
 
-ghost use Rattle.std.specs.Prelude.{◌≡◌, ◌<◌, ◌≤◌, length, vec_len};
+ghost use Rattle.std.specs.Prelude.{◌≡◌, ◌<◌, ◌≤◌, length};
 ghost use Rattle.console.specs.declared.placement.TheConstants.{MAX_JOBS};
 ghost use Rattle.model.specs.Placing.{InTimeBelow};
 ghost use Rattle.model.specs.Timelines.{row_of, Happens};
@@ -10,29 +10,29 @@ use super::refusal::Refusal;
 use model::placing::{Misplaced, place};
 use model::source::OffsetSource;
 use model::task::{Task, Timeline};
-use std::alloc::Global;
 
 /// The most jobs that a cycle may have.
 pub const MAX_JOBS: u32 = 1024;
 
+/// The offsets are in memory that is lent, so placing allocates nothing.
 #[derive(Drop)]
-pub struct Placement {
+pub struct Placement<'a> {
     pub task: Task,
-    pub offsets: Vec<u32>,
-    ghost some: { 0 < vec_len offsets },
-    ghost few: { vec_len offsets ≤ MAX_JOBS },
-    ghost in_time: { InTimeBelow task.figures offsets.items (vec_len offsets) },
+    pub offsets: &'a [u32],
+    ghost some: { 0 < length offsets.now },
+    ghost few: { length offsets.now ≤ MAX_JOBS },
+    ghost in_time: { InTimeBelow task.figures offsets.now (length offsets.now) },
 }
 
-impl Placement {
+impl<'a> Placement<'a> {
     ghost use Rattle.console.specs.Placements.{Answers};
 
     /// Places the jobs of the task's cycle by a source.
     pub(crate) fn new<S: OffsetSource>(
-        heap: Global,
         task: &Task,
         source: &S,
-    ) -> Result<Placement, Refusal>
+        memory: &'a mut [u32; MAX_JOBS as usize],
+    ) -> Result<Placement<'a>, Refusal>
         ensures { Answers task.now (S.OffsetSource.meaning source.now) result }
     {
         let figures = task.figures;
@@ -42,8 +42,8 @@ impl Placement {
         if jobs > MAX_JOBS {
             return Err(Refusal::TooManyJobs);
         }
-        let mut offsets = vec![in heap; 0; jobs as usize]?;
-        match place(&figures, jobs, source, &mut offsets) {
+        let offsets = &mut memory[..jobs as usize];
+        match place(&figures, jobs, source, offsets) {
             Ok(()) => Ok(Placement {
                 task: *task,
                 offsets,
@@ -60,16 +60,16 @@ impl Placement {
 
     /// The number of jobs of a cycle.
     pub(crate) fn jobs(&self) -> u32
-        ensures { result ≡ vec_len self.now.offsets }
+        ensures { result ≡ length self.now.offsets.now }
     {
         self.offsets.len() as u32
     }
 
     /// The timeline of a job, by any number: after a cycle the offsets repeat.
     pub(crate) fn timeline(&self, job: u32) -> Timeline
-        ensures { Happens (row_of self.now.task self.now.offsets.items) job result }
+        ensures { Happens (row_of self.now.task self.now.offsets.now) job result }
     {
-        self.task.timeline(&self.offsets, job).unwrap()
+        self.task.timeline(self.offsets, job).unwrap()
     }
 }
 
@@ -81,7 +81,8 @@ mod tests {
 
     #[test]
     fn a_steady_task_is_placed(rt: HostRuntime) -> Result<(), Refusal> {
-        let placement = Placement::new(rt.alloc(), &TASK, &Steady { offset: 3 })?;
+        let mut memory = [0; MAX_JOBS as usize];
+        let placement = Placement::new(&TASK, &Steady { offset: 3 }, &mut memory)?;
         assert_eq!(rt; placement.jobs(), 2);
         assert_eq!(rt; placement.timeline(1).copy, 13);
         assert_eq!(rt; placement.timeline(2).copy, 23);
@@ -90,7 +91,8 @@ mod tests {
 
     #[test]
     fn a_short_list_is_refused(rt: HostRuntime) {
-        let placed = Placement::new(rt.alloc(), &TASK, &Listed { bytes: &[0] });
-        assert!(rt; matches!(placed, Err(Refusal::NoOffset { job: 1 })));
+        let mut memory = [0; MAX_JOBS as usize];
+        let refusal = Placement::new(&TASK, &Listed { bytes: &[0] }, &mut memory).err();
+        assert!(rt; matches!(refusal, Some(Refusal::NoOffset { job: 1 })));
     }
 }

@@ -4,7 +4,7 @@ ghost use Rattle.std.specs.Prelude.{◌≡◌, ◌<◌, ◌≤◌, length};
 ghost use Rattle.console.specs.Placements.{Answers, lagged};
 
 use super::lane::{CYCLE, Lane};
-use super::placement::Placement;
+use super::placement::{MAX_JOBS, Placement};
 use super::refusal::Refusal;
 use super::request::{Base, Request};
 use model::figures::Figures;
@@ -32,7 +32,8 @@ pub(crate) fn introduce(rt: &impl Print, task: &Task) -> io::Result<()> {
 
 /// Answers a line that names a source.
 pub(crate) fn answer(rt: &impl Print, heap: Global, task: &Task, text: &str) -> io::Result<()> {
-    match place_as_asked(heap, task, text) {
+    let mut memory = [0; MAX_JOBS as usize];
+    match place_as_asked(heap, task, text, &mut memory) {
         Ok(placement) => tell(rt, &placement),
         Err(Refusal::OutOfMemory(error)) => Err(error.into()),
         Err(refusal) => println!(rt; "{refusal}"),
@@ -40,35 +41,40 @@ pub(crate) fn answer(rt: &impl Print, heap: Global, task: &Task, text: &str) -> 
 }
 
 /// Places the task by the source that a line names.
-fn place_as_asked(heap: Global, task: &Task, text: &str) -> Result<Placement, Refusal> {
+fn place_as_asked<'a>(
+    heap: Global,
+    task: &Task,
+    text: &str,
+    memory: &'a mut [u32; MAX_JOBS as usize],
+) -> Result<Placement<'a>, Refusal> {
     let words: Vec<&str> = text.split_whitespace().collect(heap)?;
     let Request { lags, base } = Request::read(heap, &words)?;
     match base {
-        Base::Steady(offset) => under_lags(heap, task, &lags, Steady { offset }),
-        Base::Listed(bytes) => under_lags(heap, task, &lags, Listed { bytes: &bytes }),
+        Base::Steady(offset) => under_lags(task, &lags, Steady { offset }, memory),
+        Base::Listed(bytes) => under_lags(task, &lags, Listed { bytes: &bytes }, memory),
     }
 }
 
 /// Places the task by a source under some lags, the outermost first.
 // A case for each number of lags: each is a layer of the source's type, and a function cannot recur over types.
-fn under_lags<S: OffsetSource + Copy>(
-    heap: Global,
+fn under_lags<'a, S: OffsetSource + Copy>(
     task: &Task,
     lags: &[u32],
     base: S,
-) -> Result<Placement, Refusal>
+    memory: &'a mut [u32; MAX_JOBS as usize],
+) -> Result<Placement<'a>, Refusal>
     ensures few { length lags.now ≤ 2 → Answers task.now (lagged lags.now (S.OffsetSource.meaning base)) result }
     ensures many { 2 < length lags.now → result ≡ Err Refusal.NotUnderstood }
 {
     match *lags {
-        [] => Placement::new(heap, task, &base),
-        [lag] => Placement::new(heap, task, &Late { below: base, lag }),
+        [] => Placement::new(task, &base, memory),
+        [lag] => Placement::new(task, &Late { below: base, lag }, memory),
         [outer, inner] => {
             let below = Late {
                 below: base,
                 lag: inner,
             };
-            Placement::new(heap, task, &Late { below, lag: outer })
+            Placement::new(task, &Late { below, lag: outer }, memory)
         }
         _ => Err(Refusal::NotUnderstood),
     }
