@@ -61,4 +61,6 @@ module _ (W : Workload) (H : ℕ) (many : ℕ → ℕ) (ord : Ordered W) (y : Cy
       meets i l t = done_in_cycles (W.deadline i l) i l t (le-mul_of_pos_right (W.deadline i l) y.some)
 
       pub in_windows : InWindows W r
-      in_windows t i l e = grind (arith, o.serves_pending t i l e, meets i l, served_grows r i l (W.deadline i l) t)
+      in_windows t i l e =
+          let q = o.serves_pending t i l e in
+          let early : t < W.deadline i l = grind (arith, meets i l, served_grows r i l (W.deadline i l) t) in omega (arith, q, early)

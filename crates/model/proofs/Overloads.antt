@@ -25,12 +25,19 @@ module _ (W : Workload) (r : Run) (w : InWindows W r) (m : MeetsDeadlines W r) (
 
   all_then : demand W t1 t2 ≤ given W.tasks t2 (inside W t1 t2) r t2
   unfolding given
-  all_then = jobs_le W.tasks t2 _ _ (λ i l a _. grind (arith, nat_tests, m i l a, served_grows r i l (W.deadline i l) t2))
+  all_then = jobs_le W.tasks t2 _ _ (λ i l a _.
+      let by_then : W.deadline i l ≤ t2 → W.wcet i l ≤ served r i l t2 = λ due. omega (arith, m i l a, served_grows r i l (W.deadline i l) t2 due) in
+      grind (arith, nat_tests))
 
   pub not_overloaded : Overloaded W t1 t2 → ⊥
   not_overloaded (lt, over) = omega (arith, none_yet, all_then, slow (given W.tasks t2 (inside W t1 t2) r) (given_slow W.tasks t2 (inside W t1 t2) r) t1 t2 (omega arith))
 
 -- ---- earliest deadline first, where all that was released before t0 is done by then
+
+before_or_inside : (W : Workload) (t d i l : ℕ) →
+    only (released_before W (due_by W d) d) W.wcet i l + 0 ≤
+    only (released_before W (due_by W d) t) W.wcet i l + only (inside W t d) W.wcet i l
+before_or_inside W t d i l = grind (arith, nat_tests)
 
 module _ (W : Workload) (ord : Ordered W) (r : Run) (o : WorstCaseRun W r) (t0 d : ℕ)
     (done : (i l : ℕ) → i < W.tasks → W.release i l < t0 → W.wcet i l ≤ served r i l t0) where
@@ -56,7 +63,7 @@ module _ (W : Workload) (ord : Ordered W) (r : Run) (o : WorstCaseRun W r) (t0 d
 
   rest_is_inside : (t1 : ℕ) → R d ≤ R t1 + demand W t1 d
   unfolding wanted
-  rest_is_inside t1 = omega (arith, jobs_le_both W.tasks d (work d) (λ i l. 0) (work t1) (only (inside W t1 d) W.wcet) (λ i l _ _. grind (arith, nat_tests)))
+  rest_is_inside t1 = omega (arith, jobs_le_both W.tasks d (work d) (λ i l. 0) (work t1) (only (inside W t1 d) W.wcet) (λ i l _ _. before_or_inside W t1 d i l))
 
   a_release : (t1 : ℕ) → R t1 < R (suc t1) → IsRelease W t1
   unfolding wanted

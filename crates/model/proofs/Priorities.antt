@@ -1,5 +1,6 @@
 -- The order in which earliest deadline first serves jobs, and its most urgent sets.
 use Rattle.std.proofs.Common.{◌≡◌, ℕ, ◌<◌, Bool, ◌&&◌, ◌||◌, eqb, ltb, leb, ◌⊎◌, arith}
+use Rattle.std.proofs.lemmas.Bool.{leb-true, le-leb}
 use Rattle.std.proofs.lemmas.Bool.Decides.{nat_tests}
 use Rattle.model.specs.Workloads.{Workload}
 use Rattle.model.specs.Edf.{Before}
@@ -13,7 +14,10 @@ module _ (W : Workload) where
   due_by d i l = leb (W.deadline i l) d
 
   pub urgent_due : Ordered W → (d : ℕ) → Urgent W d (due_by d)
-  urgent_due o d = grind (arith, nat_tests, due_far W o)
+  urgent_due o d = record {
+    closed = λ i l a b p h. le-leb _ _ (omega (arith, leb-true _ _ p));
+    low = λ i l t p. omega (arith, due_far W o i l t, leb-true _ _ p);
+  }
 
   -- ---- the order is total
 

@@ -29,7 +29,10 @@ pub record Urgent (W : Workload) (m : ℕ) (P : ℕ → ℕ → Bool) : Type 0 w
 module _ (W : Workload) (e : Execution) (r : Run) (o : ObeysEdf W e r) where
   pub served_most : (i l t : ℕ) → served r i l t ≤ e i l
   served_most i l zero = omega arith
-  served_most i l (suc t) = grind (arith, cases_tick r i l t, o.serves_pending t i l, served_most i l t)
+  served_most i l (suc t) = elim (cases_tick r i l t) [
+    | inl here ↦ omega (arith, here, o.serves_pending t i l here.0)
+    | inr stays ↦ omega (arith, stays, served_most i l t)
+  ]
 
   pub served_early : (i l t : ℕ) → t ≤ W.release i l → served r i l t ≡ 0
   served_early i l t h = served_none r i l (W.release i l) (λ u g. (o.serves_pending u i l g).released) t h

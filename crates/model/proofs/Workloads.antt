@@ -12,7 +12,7 @@ many rows i = length (row_at rows i).offsets
 module _ (H : ℕ) (rows : List Row) (s : Sound H rows) where
   pub ordered : Ordered (workload rows)
   ordered = record {
-    numbers = s.numbers_differ;
+    numbers = λ i a t u same. s.numbers_differ i a t u same;
     apart = λ i l b t e. eq_of_mul-eq-mul_right (row_at rows i).period (omega (arith, s.each i t)) l b (omega arith);
     far = λ i l t. grind (arith, s.each i t);
     window = λ i l t. omega (arith, s.each i t, (s.each i t).in_time l);
