@@ -4,7 +4,7 @@ ghost use Rattle.std.specs.Prelude.{◌≡◌, ◌-◌, ◌%◌, ◌≤◌, ◌=
 ghost use Rattle.wire.specs.declared.reading.Fault.TheVariants.{Misspelt};
 ghost use Rattle.wire.specs.Faults.{fault_number};
 ghost use Rattle.wire.specs.Groups.{worth};
-ghost use Rattle.wire.specs.Numbers.{largest, Read};
+ghost use Rattle.wire.specs.Numbers.{Read};
 
 /// The largest number that can be spelled.
 pub const MAX_NUMBER: u32 = 16_777_215;
@@ -52,12 +52,12 @@ pub fn read_number(bytes: &[u8]) -> Result<Number, Fault>
 fn joined(bytes: [u8; 4], len: usize) -> Result<Number, Fault>
     requires some { 1 ≤ len }
     requires few { len ≤ 4 }
-    ensures { result ≡ (if nat_lt largest (worth bytes) || (nat_lt 1 len && slice_index bytes (len - 1) == 0) then Err Misspelt else Ok (record { value = worth bytes; len = len })) }
+    ensures { result ≡ (if nat_lt 7 (slice_index bytes 3) || (nat_lt 1 len && slice_index bytes (len - 1) == 0) then Err Misspelt else Ok (record { value = worth bytes; len = len })) }
 {
     let [a, b, c, d] = bytes;
     let value = low(a) + 128 * (low(b) + 128 * (low(c) + 128 * low(d)));
-    // with nothing in its last group, the number has a shorter spelling
-    if value > MAX_NUMBER || (len > 1 && bytes[len - 1] == 0) {
+    // a fourth byte above 7 makes the number too large; with nothing in its last group, it has a shorter spelling
+    if d > 7 || (len > 1 && bytes[len - 1] == 0) {
         return Err(Fault::Misspelt);
     }
     Ok(Number { value, len })
