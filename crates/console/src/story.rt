@@ -32,26 +32,44 @@ pub(crate) fn introduce(rt: &impl Print, task: &Task) -> io::Result<()> {
 
 /// Answers a line that names a source.
 pub(crate) fn answer(rt: &impl Print, heap: Global, task: &Task, text: &str) -> io::Result<()> {
-    let mut memory = [0; MAX_JOBS as usize];
-    match place_as_asked(heap, task, text, &mut memory) {
-        Ok(placement) => tell(rt, &placement),
-        Err(Refusal::OutOfMemory(error)) => Err(error.into()),
-        Err(refusal) => println!(rt; "{refusal}"),
+    match read_request(heap, text) {
+        Ok(request) => show(rt, task, &request),
+        Err(refusal) => refuse(rt, refusal),
     }
 }
 
-/// Places the task by the source that a line names.
+/// Reads what a line asks for.
+fn read_request(heap: Global, text: &str) -> Result<Request, Refusal> {
+    let words: Vec<&str> = text.split_whitespace().collect(heap)?;
+    Request::read(heap, &words)
+}
+
+/// Places the task as asked, and tells of it.
+fn show(rt: &impl Print, task: &Task, request: &Request) -> io::Result<()> {
+    let mut memory = [0; MAX_JOBS as usize];
+    match place_as_asked(task, request, &mut memory) {
+        Ok(placement) => tell(rt, &placement),
+        Err(refusal) => refuse(rt, refusal),
+    }
+}
+
+/// Says why the task is not placed. Want of memory ends the program.
+fn refuse(rt: &impl Print, refusal: Refusal) -> io::Result<()> {
+    match refusal {
+        Refusal::OutOfMemory(error) => Err(error.into()),
+        refusal => println!(rt; "{refusal}"),
+    }
+}
+
+/// Places the task by the source that is asked for.
 fn place_as_asked<'a>(
-    heap: Global,
     task: &Task,
-    text: &str,
+    request: &Request,
     memory: &'a mut [u32; MAX_JOBS as usize],
 ) -> Result<Placement<'a>, Refusal> {
-    let words: Vec<&str> = text.split_whitespace().collect(heap)?;
-    let Request { lags, base } = Request::read(heap, &words)?;
-    match base {
-        Base::Steady(offset) => under_lags(task, &lags, Steady { offset }, memory),
-        Base::Listed(bytes) => under_lags(task, &lags, Listed { bytes: &bytes }, memory),
+    match &request.base {
+        Base::Steady(offset) => under_lags(task, &request.lags, Steady { offset: *offset }, memory),
+        Base::Listed(bytes) => under_lags(task, &request.lags, Listed { bytes }, memory),
     }
 }
 
