@@ -1,12 +1,12 @@
 -- Spelling and reading undo each other; where bytes are cut short, reading says so.
-use Rattle.std.proofs.Common.{◌≡◌, ℕ, zero, suc, ◌/◌, ◌^◌, ◌<◌, ◌≤◌, ◌↔◌, List, [], ◌∷◌, ◌++◌, length, get_or, drop, Fits, w8, IfOk, Ok, Err, Result, pow-suc, arith}
+use Rattle.std.proofs.Common.{◌≡◌, ℕ, zero, suc, ◌/◌, ◌^◌, ◌<◌, ◌≤◌, ◌↔◌, List, [], ◌∷◌, ◌++◌, length, drop, IfOk, Ok, Err, Result, pow-suc, arith}
 use Rattle.std.proofs.lemmas.Bool.Decides.{nat_tests}
 use Rattle.std.proofs.lemmas.Grind.{common_steps}
 use Rattle.std.specs.List.{AllByRecursion}
 use Rattle.wire.specs.declared.reading.Fault.{Fault}
 use Rattle.wire.specs.declared.reading.Fault.TheVariants.{Ends}
 use Rattle.wire.specs.declared.reading.Number.{Number}
-use Rattle.wire.specs.Numbers.{groups, spelling, joined_groups, bounded, first_number, Bytes, ReadsBack, HasOneSpelling, EndsWhereCut, Read}
+use Rattle.wire.specs.Numbers.{groups, spelling, joined_groups, first_number, Bytes, ReadsBack, HasOneSpelling, EndsWhereCut, Read}
 
 -- ---- what is spelled reads back
 
@@ -59,8 +59,3 @@ spelled_some n = grind (arith, nat_tests)
 pub read : (bs : List ℕ) (r : Result Number Fault) → Bytes bs → r ≡ first_number bs → Read bs r
 read bs (Ok n) b e = grind (arith, common_steps, has_one_spelling bs n b, spelled_some)
 read bs (Err fault) b e = grind (arith, ends_where_cut bs, λ (n : Number). reads_back n.value (drop n.len bs))
-
--- so is one that is what at most four groups say
-pub read_by_groups : (bs : List ℕ) (r : Result Number Fault) → ((i : ℕ) → Fits w8 (get_or bs i 0)) → r ≡ bounded (joined_groups 3 bs) → Read bs r
-unfolding first_number
-read_by_groups bs r fits e = read bs r (λ i. omega (arith, fits i)) e

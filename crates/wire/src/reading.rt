@@ -48,7 +48,7 @@ pub fn read_number(bytes: &[u8]) -> Result<Number, Fault>
     }
 }
 
-/// The number that the first `len` of four bytes spell, the lowest group first. The others are 0.
+/// The number that `len` bytes spell, the lowest group first, where they are filled up to four with 0.
 fn joined(bytes: [u8; 4], len: usize) -> Result<Number, Fault>
     requires some { 1 ≤ len }
     requires few { len ≤ 4 }
